@@ -71,7 +71,7 @@ size_t riichi_answer(uint32_t rules, const uint8_t *line, size_t line_len, uint8
  *
  *   {"answer":"refused","code":"H4","key":"seat","at":44,"length":6,"words":"a seat is E, S, W or N"}
  *
- * Where `rules` is no profile's number it is `{"answer":"refused","code":"rules"}`; that of a win under the rules of a house names
+ * Where `rules` is neither a profile's number nor rules of a house it is `{"answer":"refused","code":"rules"}`; that of a win under the rules of a house names
  * them: `{"answer":"no win","rules":"1+red-fives"}`. Sizes and returns are as above.
  */
 size_t riichi_json(uint32_t rules, const uint8_t *line, size_t line_len, uint8_t *room, size_t room_len);
@@ -103,7 +103,7 @@ size_t riichi_explain(uint32_t rules, const uint8_t *line, size_t line_len, uint
  *             RIICHI_MOST_ANSWER + 1 bytes always takes one line further; more is only faster.
  *   taken     Is set to how many bytes of the text are answered: whole lines. Where it is less than `text_len`, a call with
  *             the text from there on, and the room emptied, goes on. Where it is 0 and there is a text, the room is too
- *             small, or `rules` no profile's number.
+ *             small, or `rules` neither a profile's number nor rules of a house.
  *
  * Returns how many bytes of the room are filled; those behind them stay as they are. Each call has some 150 kB on the stack.
  *
@@ -136,7 +136,7 @@ size_t riichi_explain_json_lines(
  * bytes from offsets[i] to offsets[i + 1], so there are n + 1 offsets.
  *
  *   rules     RIICHI_RULES_ONE, RIICHI_RULES_TWO or rules of a house. Under any other number each row is answered by `refused rules`.
- *   bytes     The texts, one behind the other. A row is a line without its line feed: with one in it, or a carriage return, it is refused.
+ *   bytes     The texts, one behind the other. A row is a line without its line feed: with one in it, or a carriage return, it is refused, but a comment or a blank line has no answer.
  *   offsets   n + 1 numbers; `offsets_len` 0 or 1 is no row.
  *   room      Where the answers go, one behind the other.
  *   answer_offsets   Where each answer begins, and the last one ends: one place more than rows to be answered. The first is set to 0.
@@ -257,7 +257,7 @@ struct riichi_win {
 /* What is told of a win: 32 bytes. All but `told` is 0 where that isn't RIICHI_WON. */
 struct riichi_score {
     uint64_t yaku;      /* Bit n for the yaku with number n (docs/RULES.md, "Yaku" and "Yakuman"). */
-    uint32_t base;      /* The base points; 8000 of a yakuman, whose han, fu and dora are 0. */
+    uint32_t base;      /* The base points; of a yakuman, whose han, fu and dora are 0, 8000 for each limit. */
     uint32_t gain;      /* All that the winner gains, in points, with counters and sticks. */
     uint32_t discarder; /* What the discarder pays; 0 by self-draw. */
     uint32_t dealer;    /* What the dealer pays for another's self-draw; else 0. */
@@ -277,8 +277,9 @@ struct riichi_score {
  *
  *   rules     RIICHI_RULES_ONE, RIICHI_RULES_TWO or rules of a house. Under any other number no row is answered.
  *   wins      The wins. A row is refused for the same faults as a line (docs/NOTATION.md, H8 to H16), and with 4 where a number is
- *             in no table: a count above four, a byte that is no meld, a kind above 33, riichi above 2, counters above 99, five
- *             equal indicators, a last byte that isn't 0. The others are answered all the same.
+ *             in no table: a count above four, a byte that is no meld, a kind above 33, by above 1, seat or round above 3, riichi
+ *             above 2, counters or sticks above 99, more than four red fives of a suit, five equal indicators, a last byte that
+ *             isn't 0. The others are answered all the same.
  *   scores    What is told of each.
  *
  * Each call has some 10 kB on the stack.

@@ -179,7 +179,8 @@ row 0 $'{"line":1,"answer":"no win","rules":"2-ura","why":{"waits":["2p","5p"],"
 told 'explain --all under the rules of a house' '  rules   1+raise-ura' "$("$program" explain --all --rules 1-ura+raise < "$room/input" | grep '^  rules')"
 told 'explain under rules that are the second profile' "$("$program" explain --rules 2 < "$room/input")" "$("$program" explain --rules 1+raise+red-fives < "$room/input")"
 row 2 '' 'error: --rules has no rule `3`; 1 or 2 stands first' line --rules 3
-row 2 '' 'error: --rules has no rule `x`' line --rules 2x
+row 2 '' 'error: --rules has no rule `2x`' line --rules 2x
+row 0 'won 3 han 30 fu 3900 gain 3900 pinfu pure-straight' '' win --rules 1+red-fives-red-fives 123406789m22s34p on=2p by=ron seat=S round=E
 row 2 '' '`red-fives` is near' explain --rules 1+red-five+ura
 row 2 '' 'error: --rules has no rule ``' score --rules 2-ippatsu- "$room/input"
 # a line that looks like a profile line and is none is told on standard error, with the profile of the other lines
@@ -298,7 +299,7 @@ told 'help-rules' "$(sed -nE 's/^\| `([a-z-]+)`[^|]* \| (on|off) \| (on|off) \| 
 told 'help-yaku' "$(awk -F ' \\| ' '{ gsub(/`/, "") } /^\| (No|[0-9]+) \| [a-zW]/ {
     sub(/^\| /, "", $1); sub(/ \|$/, "", $NF); gsub(/[^ -~]/, "", $3); sub(/[ ,]+$/, "", $3)
     if (NF == 6) printf "%2s|%s|%s|%s|%s|%s\n", $1, $2, $3, $4, $5, $6; else if (NF == 4) printf "%2s|%s|%s|%s\n", $1, $2, $3, $4 }' docs/RULES.md)" \
-  "$("$program" help-yaku | sed -nE 's/^  ( ?[0-9No]+)  ([^ ]+) +(.{15}) +([0-9C][a-z]*) +([0-9O-][a-z]*)  (.*)/\1|\2|\3|\4|\5|\6/p; t; s/^  ([0-9No]+)  ([^ ]+) +(.{15})  (.*)/\1|\2|\3|\4/p' | sed 's/ *|/|/g')"
+  "$("$program" help-yaku | sed -nE 's/^  ( ?[0-9No]+)  ([^ ]+) +(.{16}) +([0-9C][a-z]*) +([0-9O-][a-z]*)  (.*)/\1|\2|\3|\4|\5|\6/p; t; s/^  ([0-9No]+)  ([^ ]+) +(.{16})  (.*)/\1|\2|\3|\4/p' | sed 's/ *|/|/g')"
 
 # the codes in words, as the documentation has them; and what follows each refusal, where `{}` stands for the words of its code
 "$program" help-codes > "$room/codes"

@@ -49,3 +49,11 @@ else
   skip 'a program in Rust' rustc
 fi
 told 'what the library asks of the C library' 'memcpy memmove memset' "$(nm -u "$archive" | sed -n 's/^ *U //p' | sort -u | xargs)"
+
+# the plain ledger of bench/, by which docs/GAME.md and the worked deals were reckoned
+if command -v cargo > /dev/null; then
+  cargo test --quiet --release --offline --manifest-path bench/Cargo.toml --target-dir "$made/bench" > "$made/ledger" 2>&1
+  told 'the texts of docs/GAME.md and the worked deals, by plain Rust' 'test result: ok' "$(grep -o '^test result: ok' "$made/ledger" | sort -u)"
+else
+  skip 'docs/GAME.md' cargo
+fi

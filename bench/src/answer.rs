@@ -1,4 +1,5 @@
 //! The answers of a text, line by line.
+use crate::house::House;
 use crate::line::{read_line, Job, LineFault};
 use crate::rows::Kept;
 use crate::score::{best, write_answer};
@@ -7,26 +8,22 @@ use crate::tiles::write_number;
 use crate::waits::write_waits;
 use std::arch::x86_64::*;
 
-fn profile_of(line: &[u8]) -> Option<bool> {
+fn profile_of(line: &[u8]) -> Option<House> {
     let mut words = line.split(|&byte| byte == b' ').filter(|word| !word.is_empty());
     match (words.next(), words.next(), words.next()) {
-        (Some(b"rules"), Some(b"1"), None) => Some(false),
-        (Some(b"rules"), Some(b"2"), None) => Some(true),
+        (Some(b"rules"), Some(b"1"), None) => Some(House::ONE),
+        (Some(b"rules"), Some(b"2"), None) => Some(House::TWO),
         _ => None,
     }
 }
 
-fn answer_line(out: &mut Vec<u8>, kept: &mut Kept, is_two: bool, line: &[u8], is_plain: bool) {
-    match read_line(is_two, line, is_plain) {
-        Ok(None) => return,
-        Ok(Some(Job::Win(win))) => write_answer(out, &win, &best(&win)),
-        Ok(Some(Job::Waits(counts, melds))) => write_waits(out, &counts, &melds),
-        Ok(Some(Job::Shape(counts, melds, seen))) => write_shape(out, kept, &counts, &melds, &seen),
-        Err(LineFault::Coded(code)) => {
+pub fn write_fault(out: &mut Vec<u8>, fault: LineFault) {
+    match fault {
+        LineFault::Coded(code) => {
             out.extend_from_slice(b"refused H");
             write_number(out, code.into());
         }
-        Err(LineFault::Notation(name, fault)) => {
+        LineFault::Notation(name, fault) => {
             out.extend_from_slice(b"refused N");
             write_number(out, fault.code.into());
             out.push(b' ');
@@ -34,6 +31,16 @@ fn answer_line(out: &mut Vec<u8>, kept: &mut Kept, is_two: bool, line: &[u8], is
             out.extend_from_slice(b" at ");
             write_number(out, fault.place as u32);
         }
+    }
+}
+
+fn answer_line(out: &mut Vec<u8>, kept: &mut Kept, house: House, line: &[u8], is_plain: bool) {
+    match read_line(house, line, is_plain) {
+        Ok(None) => return,
+        Ok(Some(Job::Win(win))) => write_answer(out, &win, &best(&win)),
+        Ok(Some(Job::Waits(counts, melds))) => write_waits(out, &counts, &melds),
+        Ok(Some(Job::Shape(counts, melds, seen))) => write_shape(out, kept, &counts, &melds, &seen),
+        Err(fault) => write_fault(out, fault),
     }
     out.push(b'\n');
 }
@@ -67,11 +74,11 @@ fn ends_of(bytes: &[u8; 16]) -> (u32, u32) {
     }
 }
 
-/// The answers of a whole text.
-pub fn answers(text: &[u8]) -> Vec<u8> {
+/// The answers of a whole text, by these rules where its first line sets none.
+pub fn answers(given: House, text: &[u8]) -> Vec<u8> {
     let mut out = Vec::with_capacity(text.len() + text.len() / 2);
     let mut kept = Kept::new();
-    let (mut is_two, mut rest) = (false, text);
+    let (mut house, mut rest) = (given, text);
     while !rest.is_empty() {
         let (end, is_plain) = first_line(rest);
         let line = &rest[..end];
@@ -80,11 +87,11 @@ pub fn answers(text: &[u8]) -> Vec<u8> {
         let line = if is_plain { line } else { line.strip_suffix(b"\r").unwrap_or(line) };
         if is_first && line.len() <= 4096 {
             if let Some(told) = profile_of(line) {
-                is_two = told;
+                house = told;
                 continue;
             }
         }
-        answer_line(&mut out, &mut kept, is_two, line, is_plain);
+        answer_line(&mut out, &mut kept, house, line, is_plain);
     }
     out
 }

@@ -1,4 +1,5 @@
 //! `best` alone, beside the program of `best/`: the same wins, scored many times by both.
+use crate::house::House;
 use crate::line::{read_line, Job, Win};
 use crate::score::{best, Answer};
 use std::hint::black_box;
@@ -39,7 +40,7 @@ const SORTS: [(&str, &[&str]); 4] = [
 ];
 
 fn win_of(line: &str) -> Win {
-    match read_line(false, line.as_bytes(), false) {
+    match read_line(House::ONE, line.as_bytes(), false) {
         Ok(Some(Job::Win(win))) => win,
         _ => panic!("no win: {line}"),
     }

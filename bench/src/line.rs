@@ -1,4 +1,5 @@
 //! Record lines.
+use crate::house::{House, Switch};
 use crate::kinds::{at_least, Each};
 use crate::tiles::{dora_of, read_meld, read_tiles, Counts, Fault, Meld, Melds, Tiles};
 
@@ -18,7 +19,7 @@ pub struct Flags {
 }
 
 pub struct Win {
-    pub is_two: bool,
+    pub house: House,
     pub concealed: Counts,
     pub melds: Melds,
     pub winning: u8,
@@ -202,11 +203,11 @@ impl<'a> Fields<'a> {
     }
 }
 
-fn fields<'a>(words: Words<'a>, job: usize) -> Option<Fields<'a>> {
+fn fields<'a>(words: impl Iterator<Item = &'a [u8]>, allowed: u16) -> Option<Fields<'a>> {
     let mut fields = Fields::default();
     for word in words {
         let (key, value) = Key::of(word)?;
-        if ALLOWED[job] & key.bit() == 0 {
+        if allowed & key.bit() == 0 {
             return None;
         }
         fields.keep(key, value)?;
@@ -257,7 +258,7 @@ fn keep_dora(win: &mut Win, indicators: &Tiles) {
 }
 
 /// The job of a line, none where it is no record, or its first fault. Of a plain line all bytes are printable.
-pub fn read_line(is_two: bool, line: &[u8], is_plain: bool) -> Result<Option<Job>, LineFault> {
+pub fn read_line(house: House, line: &[u8], is_plain: bool) -> Result<Option<Job>, LineFault> {
     use LineFault::Coded;
     if line.len() > 4096 {
         return Err(Coded(1));
@@ -276,7 +277,43 @@ pub fn read_line(is_two: bool, line: &[u8], is_plain: bool) -> Result<Option<Job
         _ => return Err(Coded(2)),
     };
     let hand = words.next().filter(|word| find(word, b'=') == word.len()).ok_or(Coded(3))?;
-    let fields = fields(words, job).ok_or(Coded(4))?;
+    let fields = fields(words, ALLOWED[job]).ok_or(Coded(4))?;
+    read_job(house, job, hand, &fields).map(Some)
+}
+
+/// What a table knows of a win beside its hand: how and by whom it was won, and whether the winner is named as one who bet.
+pub struct Known {
+    pub is_tsumo: bool,
+    pub seat: u8,
+    pub round: u8,
+    pub has_bet: bool,
+}
+
+/// The win of a hand and its words at a table that knows the rest.
+pub fn read_hand(house: House, hand: &str, words: &[&str], known: &Known) -> Result<Win, LineFault> {
+    use LineFault::Coded;
+    let is_plain = |word: &str| word.bytes().all(|byte| (0x20..=0x7e).contains(&byte));
+    if !is_plain(hand) || !words.iter().all(|word| is_plain(word)) {
+        return Err(Coded(1));
+    }
+    if hand.contains('=') {
+        return Err(Coded(3));
+    }
+    let told = Key::By.bit() | Key::Seat.bit() | Key::Round.bit() | Key::Counters.bit() | Key::Sticks.bit();
+    let mut fields = fields(words.iter().map(|word| word.as_bytes()), ALLOWED[0] & !told).ok_or(Coded(4))?;
+    if known.has_bet && fields.present & Key::Riichi.bit() == 0 {
+        fields.riichi = 1;
+    }
+    fields.present |= told;
+    (fields.is_tsumo, fields.seat, fields.round) = (known.is_tsumo, known.seat, known.round);
+    match read_job(house, 0, hand.as_bytes(), &fields)? {
+        Job::Win(win) => Ok(win),
+        _ => unreachable!("the job is a win"),
+    }
+}
+
+fn read_job(house: House, job: usize, hand: &[u8], fields: &Fields) -> Result<Job, LineFault> {
+    use LineFault::Coded;
     if fields.is_doubled {
         return Err(Coded(5));
     }
@@ -300,12 +337,12 @@ pub fn read_line(is_two: bool, line: &[u8], is_plain: bool) -> Result<Option<Job
         return Err(Coded(9));
     }
     match job {
-        1 => return Ok(Some(Job::Waits(held.counts, melds))),
-        2 => return Ok(Some(Job::Shape(held.counts, melds, seen.counts))),
+        1 => return Ok(Job::Waits(held.counts, melds)),
+        2 => return Ok(Job::Shape(held.counts, melds, seen.counts)),
         _ => {}
     }
     let mut win = Win {
-        is_two,
+        house,
         concealed: held.counts,
         melds,
         winning: at_least(&on.counts, 1).trailing_zeros() as u8,
@@ -319,14 +356,21 @@ pub fn read_line(is_two: bool, line: &[u8], is_plain: bool) -> Result<Option<Job
         has_ura: ura.total > 0,
         counters: fields.counters,
         sticks: fields.sticks,
-        reds: if is_two { reds } else { 0 },
+        reds: if house.has(Switch::RedFives) { reds } else { 0 },
     };
     keep_dora(&mut win, &dora);
-    keep_dora(&mut win, &ura);
+    if house.has(Switch::Ura) {
+        keep_dora(&mut win, &ura);
+    }
     match fault_of(&win) {
         Some(code) => Err(Coded(code)),
-        None => Ok(Some(Job::Win(win))),
+        None => Ok(Job::Win(win)),
     }
+}
+
+/// Whether a win may be one before the second draw: by self-draw, or where the blessing of man counts by another seat's ron.
+fn may_be_first(win: &Win) -> bool {
+    win.is_tsumo || win.house.has(Switch::BlessingOfMan) && win.seat != 27
 }
 
 /// The first of the faults from H10 on.
@@ -344,7 +388,7 @@ fn fault_of(win: &Win) -> Option<u8> {
         Some(13)
     } else if flags.rinshan && (flags.last || flags.ippatsu) || flags.chankan && flags.last {
         Some(14)
-    } else if flags.first && (win.melds.count > 0 || !win.is_tsumo || win.riichi > 0 || others) {
+    } else if flags.first && (win.melds.count > 0 || !may_be_first(win) || win.riichi > 0 || others) {
         Some(15)
     } else {
         None

@@ -1,4 +1,5 @@
 //! The program's `line` beside plain Rust: the same lines, each once or few of them over and over, in one run.
+use crate::house::House;
 use crate::{answer, clock, input};
 use std::io::{Read, Write};
 use std::process::{Command, Stdio};
@@ -32,7 +33,7 @@ fn measure(program: &str, name: &str, input: &[u8], count: usize) -> std::io::Re
         let (output, time) = run(program, input)?;
         theirs = theirs.min(time);
         let begun = clock::own_time();
-        let wanted = answer::answers(input);
+        let wanted = answer::answers(House::ONE, input);
         ours = ours.min(clock::own_time() - begun);
         are_same &= output == wanted;
     }
@@ -44,7 +45,7 @@ fn measure(program: &str, name: &str, input: &[u8], count: usize) -> std::io::Re
 
 /// Prints the table of all sorts of lines; whether all answers were the same.
 pub fn table(program: &str, count: usize) -> std::io::Result<bool> {
-    answer::answers(b"shape 123456789m1134p\n"); // plain Rust makes its tables
+    answer::answers(House::ONE, b"shape 123456789m1134p\n"); // plain Rust makes its tables
     println!("| Lines | Program, ns a line | Plain Rust, ns a line | Ratio |\n|---|---|---|---|");
     let mut are_same = true;
     for sort in input::SORTS {

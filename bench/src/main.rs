@@ -3,12 +3,16 @@
 //! `bench PROGRAM [LINES]` times both; `bench answer < FILE` writes the answers of plain Rust alone;
 //! `bench best TIMED` times the best score alone (`time_best` makes the program TIMED), and `bench shapes TIMED [HANDS]`
 //! shapes and shanten alone (`time_shapes` makes it);
-//! `bench pool PROGRAM [LINES]` times `score` beside `line`.
+//! `bench pool PROGRAM [LINES]` times `score` beside `line`;
+//! `bench ledger < FILE` answers a text of games, `bench need NAME [PLACE [NAMES]] < FILE` says what a player needs, and
+//! `bench games [COUNT [SEED [FOLDER]]]` writes random texts of games.
 mod answer;
 mod best;
 mod clock;
+mod house;
 mod input;
 mod kinds;
+mod ledger;
 mod line;
 mod lines;
 mod pen;
@@ -21,6 +25,7 @@ mod suit;
 mod tiles;
 mod waits;
 
+use house::House;
 use std::io::{Read, Write};
 
 fn main() -> std::io::Result<()> {
@@ -29,7 +34,12 @@ fn main() -> std::io::Result<()> {
         Some("answer") => {
             let mut text = Vec::new();
             std::io::stdin().read_to_end(&mut text)?;
-            std::io::stdout().write_all(&answer::answers(&text))
+            let named = words.get(2).map_or(Some(House::ONE), |word| House::named(word));
+            let Some(house) = named else {
+                eprintln!("bench: no such rules: {}", words[2]);
+                std::process::exit(2)
+            };
+            std::io::stdout().write_all(&answer::answers(house, &text))
         }
         Some("best") => {
             if !best::measure(&words[2])? {
@@ -39,6 +49,15 @@ fn main() -> std::io::Result<()> {
         }
         Some("shapes") => shapes::table(&words[2], words.get(3).and_then(|word| word.parse().ok()).unwrap_or(20_000)),
         Some("pool") => pool::measure(&words[2], words.get(3).and_then(|word| word.parse().ok()).unwrap_or(1_000_000)),
+        Some("games") => {
+            let number = |at: usize, or| words.get(at).and_then(|word| word.parse().ok()).unwrap_or(or);
+            ledger::write_texts(number(2, 1000), number(3, 1) as u64, words.get(4).map(String::as_str))
+        }
+        Some("ledger") => ledger::answer(words.get(2).map(String::as_str) == Some("--coverage")),
+        Some("need") => {
+            let place = words.get(3).and_then(|word| word.parse().ok()).unwrap_or(1);
+            ledger::answer_need(&words[2], place, words.get(4).map_or("", String::as_str))
+        }
         Some("lines") => std::io::stdout().write_all(&input::lines(&words[2], words[3].parse().unwrap_or(1000))),
         Some(program) => {
             let count = words.get(2).and_then(|word| word.parse().ok()).unwrap_or(100_000);
@@ -48,7 +67,7 @@ fn main() -> std::io::Result<()> {
             Ok(())
         }
         None => {
-            eprintln!("usage: bench PROGRAM [LINES] | bench best TIMED | bench shapes TIMED [HANDS] | bench pool PROGRAM [LINES] | bench answer < FILE | bench lines win|waits|shape13|shape14|mixed COUNT");
+            eprintln!("usage: bench PROGRAM [LINES] | bench best TIMED | bench shapes TIMED [HANDS] | bench pool PROGRAM [LINES] | bench answer [RULES] < FILE | bench games [COUNT [SEED [FOLDER]]] | bench ledger [--coverage] < FILE | bench need NAME [PLACE [NAMES]] < FILE | bench lines win|waits|shape13|shape14|mixed COUNT");
             std::process::exit(2)
         }
     }

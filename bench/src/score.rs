@@ -1,4 +1,5 @@
 //! Readings of a won hand, fu, yaku, payment.
+use crate::house::{House, Switch};
 use crate::kinds::{at_least, Each, ORPHANS};
 use crate::line::Win;
 use crate::pen::Pen;
@@ -106,7 +107,7 @@ fn luck_of(win: &Win, is_concealed: bool) -> u64 {
     let flags = win.flags;
     u64::from(win.riichi == 1)
         | u64::from(win.riichi == 2) << 1
-        | u64::from(flags.ippatsu) << 2
+        | u64::from(flags.ippatsu && win.house.has(Switch::Ippatsu)) << 2
         | u64::from(win.is_tsumo && is_concealed) << 3
         | u64::from(flags.rinshan) << 12
         | u64::from(flags.chankan) << 13
@@ -123,16 +124,21 @@ impl Hand<'_> {
         let is_orphans = held & !ORPHANS == 0;
         let is_one = suits == 1 && !has_honours;
         let first = win.flags.first;
+        let is_dealer = win.seat == 27;
+        let blessings = u64::from(first && is_dealer) << 39
+            | u64::from(first && !is_dealer && win.is_tsumo) << 40
+            | u64::from(first && !win.is_tsumo) << 41;
+        let may_be_simple = is_concealed || win.house.has(Switch::OpenSimples);
         Hand {
             win,
             is_concealed,
             has_honours,
             luck: luck_of(win, is_concealed),
-            tiles: u64::from(held & ORPHANS == 0) << 6
+            tiles: u64::from(held & ORPHANS == 0 && may_be_simple) << 6
                 | u64::from(is_orphans) << 24
                 | u64::from(suits == 1 && has_honours) << 25
                 | u64::from(is_one) << 28,
-            great: u64::from(suits == 0) << 35 | u64::from(first && win.seat == 27) << 39 | u64::from(first && win.seat != 27) << 40,
+            great: u64::from(suits == 0) << 35 | blessings,
             standard_great: u64::from(is_one && win.melds.count == 0 && is_gates(held, at_least(all, 3))) << 30
                 | u64::from(is_orphans && !has_honours) << 36
                 | u64::from(held & !GREEN == 0) << 37,
@@ -206,24 +212,46 @@ fn fu_of_triplets(hand: &Hand, sets: &Sets) -> u32 {
 }
 
 fn fu_of_pair(win: &Win, pair: u8) -> u32 {
-    2 * (u32::from(pair >= 31) + u32::from(pair == win.seat) + u32::from(pair == win.round))
+    let winds = u32::from(pair == win.seat) + u32::from(pair == win.round);
+    let most = if win.house.has(Switch::DoubleWindPair) { 2 } else { 1 };
+    2 * (u32::from(pair >= 31) + winds.min(most))
 }
 
-pub fn base_points(is_two: bool, han: u8, fu: u8) -> u32 {
+pub fn base_points(house: House, han: u8, fu: u8) -> u32 {
     match han {
-        0..=4 if is_two && (han == 4 && fu == 30 || han == 3 && fu == 60) => 2000,
+        0..=4 if house.has(Switch::Raise) && (han == 4 && fu == 30 || han == 3 && fu == 60) => 2000,
         0..=4 => (u32::from(fu) << (han + 2)).min(2000),
         5 => 2000,
         6 | 7 => 3000,
         8..=10 => 4000,
         11 | 12 => 6000,
+        _ if !house.has(Switch::CountedYakuman) => 6000,
         _ => 8000,
     }
 }
 
-fn scored(hand: &Hand, ordinary: u64, yakuman: u64, fu: u32) -> Option<Score> {
+/// The yakuman that are in a rare form: thirteen orphans on thirteen waits, nine gates on nine, four concealed pungs completed
+/// in the pair, and big four winds in any.
+fn rare_of(win: &Win, pair: Option<u8>) -> u64 {
+    let held = at_least(&win.concealed, 1);
+    let is_pure = is_gates(held, at_least(&win.concealed, 3));
+    u64::from(held == ORPHANS) << 29 | u64::from(is_pure) << 30 | u64::from(pair == Some(win.winning)) << 31 | 1 << 34
+}
+
+/// How many limits the yakuman of a reading pay.
+fn limits_of(win: &Win, yakuman: u64, pair: Option<u8>) -> u32 {
+    let double = if win.house.has(Switch::DoubleYakuman) { yakuman & rare_of(win, pair) } else { 0 };
+    if win.house.has(Switch::AddYakuman) {
+        yakuman.count_ones() + double.count_ones()
+    } else {
+        1 + u32::from(double != 0)
+    }
+}
+
+fn scored(hand: &Hand, ordinary: u64, yakuman: u64, pair: Option<u8>, fu: u32) -> Option<Score> {
     if yakuman != 0 {
-        return Some(Score { base: 8000, is_yakuman: true, yaku: yakuman, ..Score::default() });
+        let base = 8000 * limits_of(hand.win, yakuman, pair);
+        return Some(Score { base, is_yakuman: true, yaku: yakuman, ..Score::default() });
     }
     if ordinary == 0 {
         return None;
@@ -236,7 +264,7 @@ fn scored(hand: &Hand, ordinary: u64, yakuman: u64, fu: u32) -> Option<Score> {
         rest &= rest - 1;
     }
     let fu = fu as u8;
-    Some(Score { base: base_points(hand.win.is_two, han, fu), is_yakuman: false, han, fu, yaku: ordinary, dora: hand.dora })
+    Some(Score { base: base_points(hand.win.house, han, fu), is_yakuman: false, han, fu, yaku: ordinary, dora: hand.dora })
 }
 
 /// What the winning tile completes.
@@ -256,8 +284,9 @@ fn score_standard(hand: &Hand, mut sets: Sets, pair: u8, done: Done) -> Option<S
     let pair_fu = fu_of_pair(win, pair);
     let pinfu = hand.is_concealed && pair_fu == 0 && done == Done::TwoSided && sets.triplets == 0;
     let mut fu = 20 + pair_fu + 2 * u32::from(done == Done::One) + fu_of_triplets(hand, &sets);
-    fu += if win.is_tsumo { if pinfu { 0 } else { 2 } } else if hand.is_concealed { 10 } else { 0 };
-    if !win.is_tsumo && !hand.is_concealed && fu == 20 {
+    let draw_fu = !pinfu && (!win.flags.rinshan || win.house.has(Switch::KongDrawFu));
+    fu += if win.is_tsumo { if draw_fu { 2 } else { 0 } } else if hand.is_concealed { 10 } else { 0 };
+    if !win.is_tsumo && !hand.is_concealed && fu == 20 && win.house.has(Switch::OpenPinfuFu) {
         fu = 30;
     }
     let (triplets, great) = bits_of_triplets(hand, &sets, pair);
@@ -267,7 +296,7 @@ fn score_standard(hand: &Hand, mut sets: Sets, pair: u8, done: Done) -> Option<S
         | bits_of_runs(&sets.runs, hand.is_concealed)
         | bits_of_ends(hand, &sets, pair)
         | triplets;
-    scored(hand, ordinary, hand.great | great | hand.standard_great, fu.div_ceil(10) * 10)
+    scored(hand, ordinary, hand.great | great | hand.standard_great, Some(pair), fu.div_ceil(10) * 10)
 }
 
 /// The best of all readings so far.
@@ -355,12 +384,12 @@ impl Search<'_> {
     fn special(&mut self, one: u64, two: u64, three: u64) {
         let hand = &self.hand;
         if (two & !three).count_ones() == 7 {
-            let score = scored(hand, hand.luck | hand.tiles | 1 << 18, hand.great, 25);
+            let score = scored(hand, hand.luck | hand.tiles | 1 << 18, hand.great, None, 25);
             self.is_win = true;
             self.best = self.best.max(score);
         }
         if one == ORPHANS {
-            let score = scored(hand, 0, hand.great & (3 << 39) | 1 << 29, 0);
+            let score = scored(hand, 0, hand.great & (7 << 39) | 1 << 29, None, 0);
             self.is_win = true;
             self.best = self.best.max(score);
         }

@@ -9,11 +9,13 @@
 //! ```
 #![tactic(auto)]
 
+mod command;
 mod help;
 mod request;
 mod rules;
 mod words;
 
-pub use request::{Form, Lines, Request, request_of};
-pub use rules::{nearest_rule, rules_named};
+pub use command::CommandName;
+pub use request::{Form, Lines, Manner, Request, request_of};
+pub use rules::nearest_rule;
 pub use words::commands;

@@ -1,26 +1,27 @@
 //! What the words of a command line ask for.
-use crate::rules::rules_named;
+ghost use Rattle.std.specs.Prelude.{◌≡◌, None, Some, IfOk, IfErr, codes, option_map};
+ghost use Rattle.clap.specs.Matches.{found_of};
+ghost use Rattle.riichi_hand.specs.RulesText.{NamesRules};
+ghost use Rattle.desk_cli.specs.declared.command.CommandName.{CommandName};
+ghost use Rattle.desk_cli.specs.Requests as spec;
+
+use crate::command::{CommandName, is_job};
 use clap::ArgMatches;
-use riichi_hand::Rules;
+use riichi_hand::{Rules, read_rules};
 
 /// What the command line asks for.
 #[derive(Clone, Copy)]
 pub enum Request<'m, 'a> {
-    /// Rules that there aren't: this word names none.
+    /// Rules that there aren't: this text begins with a word that names none.
     UnknownRules(&'a str),
     /// The waits of this hand.
     Waits(&'a str),
-    /// The answers to record lines in this form, under these rules where the first line sets none.
+    /// The answers to record lines.
     Lines {
         lines: Lines<'m, 'a>,
-        form: Form,
-        rules: Rules,
-        /// Whether each stands behind the number of its line.
-        is_numbered: bool,
+        manner: Manner,
         /// Whether it isn't to be shown how far the answers are, as ever where the lines come from no files.
         is_quiet: bool,
-        /// By how many threads, where there may be several.
-        workers: Option<u32>,
     },
     /// Every code in words.
     HelpCodes,
@@ -40,6 +41,18 @@ pub enum Request<'m, 'a> {
         /// Whether it isn't to be shown how far the answers are.
         is_quiet: bool,
     },
+}
+
+/// How record lines are answered.
+#[derive(Clone, Copy)]
+pub struct Manner {
+    pub form: Form,
+    /// Whether each answer stands behind the number of its line.
+    pub is_numbered: bool,
+    /// By how many threads, where there may be several.
+    pub workers: Option<u32>,
+    /// The rules where the first line sets none.
+    pub rules: Rules,
 }
 
 /// How answers are written.
@@ -70,129 +83,200 @@ pub enum Lines<'m, 'a> {
     One(&'m [&'a str]),
     /// One line of a job, its hand, and the words behind it.
     Record {
-        job: &'static str,
+        job: CommandName,
         hand: &'a str,
-        words: &'m [&'a str],
+        words: Option<&'m [&'a str]>,
     },
 }
 
-impl Lines<'_, '_> {
-    fn are_of_files(&self) -> bool {
-        matches!(self, Lines::Files(_))
+/// What the words ask for; none where they name no command of ours, or lack a word that it needs.
+pub fn request_of<'m, 'a>(matches: &'m ArgMatches<'a>) -> Option<Request<'m, 'a>>
+    ensures asked { (command : CommandName) → spec.command_of matches.now ≡ Some command
+        → spec.Asks matches.now command result }
+    ensures none { spec.command_of matches.now ≡ None → result ≡ None }
+{
+    let (name, words) = matches.subcommand()?;
+    command_request(CommandName::named(name)?, words)
+}
+
+fn command_request<'m, 'a>(
+    command: CommandName,
+    words: &'m ArgMatches<'a>,
+) -> Option<Request<'m, 'a>>
+    ensures { spec.IsAsked command (found_of words.now) result }
+{
+    match command {
+        CommandName::Line => Some(line_request(words)),
+        CommandName::Explain => Some(explain_request(words)),
+        CommandName::Replay => replay_request(words),
+        CommandName::Score => score_request(words),
+        CommandName::HelpCodes => Some(Request::HelpCodes),
+        CommandName::HelpRules => Some(Request::HelpRules),
+        CommandName::HelpYaku => Some(Request::HelpYaku),
+        CommandName::Win | CommandName::Waits | CommandName::Shape => record_request(
+            command, words,
+        ),
     }
 }
 
-/// What the words ask for; none where they name no command of ours.
-pub fn request_of<'m, 'a>(matches: &'m ArgMatches<'a>) -> Option<Request<'m, 'a>> {
-    if let Some(line) = matches.subcommand_matches("line") {
-        let lines = files_or(line, Lines::Input);
-        let is_quiet = line.get_flag("quiet") || !lines.are_of_files();
-        return Some(lines_request(line, lines, form_in(line), is_quiet));
-    }
-    if let Some(explain) = matches.subcommand_matches("explain") {
-        let lines = files_or(explain, told_lines(explain));
-        return Some(lines_request(explain, lines, reasons_in(explain), true));
-    }
-    if matches.subcommand_matches("help-codes").is_some() {
-        return Some(Request::HelpCodes);
-    }
-    if matches.subcommand_matches("help-rules").is_some() {
-        return Some(Request::HelpRules);
-    }
-    if matches.subcommand_matches("help-yaku").is_some() {
-        return Some(Request::HelpYaku);
-    }
-    if let Some(replay) = matches.subcommand_matches("replay") {
-        return Some(Request::Replay(replay.get_str("FILE")?));
-    }
-    if let Some(score) = matches.subcommand_matches("score") {
-        let files = score.get_strs("FILE")?;
-        let workers = score.get_one("workers")?;
-        return Some(match rules_in(score) {
-            Ok(rules) => Request::Score {
-                files,
-                workers,
-                rules,
-                is_numbered: score.get_flag("number"),
-                is_quiet: score.get_flag("quiet"),
-            },
-            Err(word) => Request::UnknownRules(word),
-        });
-    }
-    record_request(matches)
+fn line_request<'m, 'a>(words: &'m ArgMatches<'a>) -> Request<'m, 'a>
+    ensures { spec.AsksForLines (found_of words.now) (spec.IsLine (found_of words.now)) result }
+{
+    let lines = files_or_input(words);
+    let is_quiet = words.get_flag("quiet") || !lines.are_of_files();
+    lines_request(words, lines, form_in(words), is_quiet)
+}
+
+fn explain_request<'m, 'a>(words: &'m ArgMatches<'a>) -> Request<'m, 'a>
+    ensures { spec.AsksForLines (found_of words.now) (spec.IsExplain (found_of words.now)) result }
+{
+    let lines = match files_or_input(words) {
+        Lines::Input => told_lines(words),
+        files => files,
+    };
+    lines_request(words, lines, reasons_in(words), true)
 }
 
 /// What a command asks for that is named by the job of its record: the waits of a hand alone are those of a text of tiles.
-fn record_request<'m, 'a>(matches: &'m ArgMatches<'a>) -> Option<Request<'m, 'a>> {
-    for job in JOBS {
-        if let Some(record) = matches.subcommand_matches(job) {
-            let hand = record.get_str("HAND")?;
-            let words = record.get_strs("WORD").unwrap_or(&[]);
-            if job == "waits" && words.is_empty() {
-                return Some(Request::Waits(hand));
-            }
-            let lines = Lines::Record { job, hand, words };
-            return Some(lines_request(record, lines, Form::Words, true));
-        }
+fn record_request<'m, 'a>(
+    command: CommandName,
+    words: &'m ArgMatches<'a>,
+) -> Option<Request<'m, 'a>>
+    ensures { spec.AsksForRecord command (found_of words.now) result }
+{
+    let hand = words.get_str("HAND")?;
+    let behind = words.get_strs("WORD");
+    if command == CommandName::Waits && are_none(behind) {
+        return Some(Request::Waits(hand));
     }
-    None
+    let lines = Lines::Record {
+        job: command,
+        hand,
+        words: behind,
+    };
+    Some(lines_request(words, lines, Form::Words, true))
 }
 
-/// The first words of record lines.
-const JOBS: [&str; 3] = ["win", "waits", "shape"];
+/// Whether no word is given.
+fn are_none(words: Option<&[&str]>) -> bool
+    ensures { result ≡ spec.are_none (option_map (λ given. spec.texts given.now) words.entry) }
+{
+    match words {
+        Some(given) => given.is_empty(),
+        None => true,
+    }
+}
 
+fn replay_request<'m, 'a>(words: &'m ArgMatches<'a>) -> Option<Request<'m, 'a>>
+    ensures { spec.AsksForReplay (found_of words.now) result }
+{
+    Some(Request::Replay(words.get_str("FILE")?))
+}
+
+fn score_request<'m, 'a>(words: &'m ArgMatches<'a>) -> Option<Request<'m, 'a>>
+    ensures { spec.AsksForScore (found_of words.now) result }
+{
+    let files = words.get_strs("FILE")?;
+    let workers = words.get_one("workers")?;
+    Some(match rules_in(words) {
+        Ok(rules) => Request::Score {
+            files,
+            workers,
+            rules,
+            is_numbered: words.get_flag("number"),
+            is_quiet: words.get_flag("quiet"),
+        },
+        Err(word) => Request::UnknownRules(word),
+    })
+}
+
+/// The request to answer these lines in this form, with what the options say.
 fn lines_request<'m, 'a>(
-    matches: &'m ArgMatches<'a>,
+    words: &'m ArgMatches<'a>,
     lines: Lines<'m, 'a>,
     form: Form,
     is_quiet: bool,
-) -> Request<'m, 'a> {
-    match rules_in(matches) {
+) -> Request<'m, 'a>
+    ensures { spec.AsksForLines (found_of words.now)
+        (λ asked_lines asked_form quiet. (asked_lines ≡ lines.entry)
+        × (asked_form ≡ form) × (quiet ≡ is_quiet)) result }
+{
+    match rules_in(words) {
         Ok(rules) => Request::Lines {
             lines,
-            form,
-            rules,
-            is_numbered: matches.get_flag("number"),
+            manner: Manner {
+                form,
+                is_numbered: words.get_flag("number"),
+                workers: words.get_one("workers"),
+                rules,
+            },
             is_quiet,
-            workers: matches.get_one("workers"),
         },
         Err(word) => Request::UnknownRules(word),
     }
 }
 
-/// The files of the option, or else other lines.
-fn files_or<'m, 'a>(matches: &'m ArgMatches<'a>, lines: Lines<'m, 'a>) -> Lines<'m, 'a> {
-    match matches.get_strs("file") {
+impl Lines<'_, '_> {
+    fn are_of_files(&self) -> bool
+        ensures { result ≡ spec.are_of_files self.now }
+    {
+        matches!(self, Lines::Files(_))
+    }
+}
+
+/// The files of the option, or else standard input.
+fn files_or_input<'m, 'a>(words: &'m ArgMatches<'a>) -> Lines<'m, 'a>
+    ensures { spec.AreLines (found_of words.now) result }
+{
+    match words.get_strs("file") {
         Some(files) => Lines::Files(files),
-        None => lines,
+        None => Lines::Input,
     }
 }
 
 /// The lines that are told as words: one line where the first word is a job, else each word is a line.
-fn told_lines<'m, 'a>(matches: &'m ArgMatches<'a>) -> Lines<'m, 'a> {
-    match matches.get_strs("LINE") {
+fn told_lines<'m, 'a>(words: &'m ArgMatches<'a>) -> Lines<'m, 'a>
+    ensures { spec.words_under (found_of words.now) (codes "file") ≡ None
+        → spec.AreExplained (found_of words.now) result }
+{
+    match words.get_strs("LINE") {
         None => Lines::Input,
-        Some(words) => {
-            if words.first().is_some_and(|word| JOBS.contains(word)) {
-                Lines::One(words)
+        Some(told) => {
+            if are_one_line(told) {
+                Lines::One(told)
             } else {
-                Lines::Each(words)
+                Lines::Each(told)
             }
         }
     }
 }
 
-/// The rules of the option, or the word in it that names none.
-fn rules_in<'a>(matches: &ArgMatches<'a>) -> Result<Rules, &'a str> {
-    match matches.get_str("rules") {
-        Some(text) => rules_named(text),
-        None => Ok(Rules::One),
+fn are_one_line(words: &[&str]) -> bool
+    ensures { result ≡ spec.are_one_line (spec.texts words.now) }
+{
+    match words.first() {
+        Some(word) => is_job(word),
+        None => false,
+    }
+}
+
+/// The rules of the option, or the word in it that names none, with what stands behind it.
+fn rules_in<'a>(words: &ArgMatches<'a>) -> Result<Rules, &'a str>
+    ensures ok { IfOk result (λ rules. NamesRules (spec.rules_option (found_of words.now)) rules) }
+    ensures unknown { IfErr result (λ word. spec.IsUnknown (found_of words.now) word.now) }
+{
+    let text = words.get_str("rules").unwrap_or("1");
+    match read_rules(text.as_bytes()) {
+        Ok(rules) => Ok(rules),
+        Err(fault) => Err(&text[fault.place..]),
     }
 }
 
 /// The form that answers are wanted in.
-fn form_in(matches: &ArgMatches<'_>) -> Form {
-    if matches.get_flag("json") {
+fn form_in(words: &ArgMatches<'_>) -> Form
+    ensures { spec.IsLineForm (found_of words.now) result }
+{
+    if words.get_flag("json") {
         Form::Json
     } else {
         Form::Words
@@ -200,10 +284,13 @@ fn form_in(matches: &ArgMatches<'_>) -> Form {
 }
 
 /// How many reasons are wanted, and how they are written. As JSON they are all.
-fn reasons_in(matches: &ArgMatches<'_>) -> Form {
-    if matches.get_flag("json") {
+fn reasons_in(words: &ArgMatches<'_>) -> Form
+    ensures { spec.IsExplainForm (found_of words.now) result }
+{
+    let is_all = words.get_flag("all");
+    if words.get_flag("json") {
         Form::JsonReasons
-    } else if matches.get_flag("all") {
+    } else if is_all {
         Form::AllReasons
     } else {
         Form::Reasons

@@ -1,4 +1,5 @@
 //! The commands and their words.
+use crate::command::CommandName;
 use crate::help::{
     CODES_HELP, EXPLAIN_HELP, LINE_HELP, PROGRAM_HELP, REPLAY_HELP, RULES_HELP, SCORE_HELP,
     SHAPE_HELP, WAITS_HELP, WIN_HELP, YAKU_HELP,
@@ -51,7 +52,7 @@ fn with_helps<'a>(alloc: Global, program: Command<'a>) -> Result<Command<'a>, Al
 }
 
 fn win_command<'a>(alloc: Global) -> Result<Command<'a>, AllocError> {
-    Command::new(alloc, "win")
+    Command::new(alloc, CommandName::Win.word())
         .about("Prints what a winning hand is worth")
         .after_help(WIN_HELP)
         .arg(rules_arg(alloc))?
@@ -66,7 +67,7 @@ fn win_command<'a>(alloc: Global) -> Result<Command<'a>, AllocError> {
 }
 
 fn waits_command<'a>(alloc: Global) -> Result<Command<'a>, AllocError> {
-    Command::new(alloc, "waits")
+    Command::new(alloc, CommandName::Waits.word())
         .about("Prints the kinds of tile that complete a hand of thirteen tiles")
         .after_help(WAITS_HELP)
         .arg(hand_arg(
@@ -77,7 +78,7 @@ fn waits_command<'a>(alloc: Global) -> Result<Command<'a>, AllocError> {
 }
 
 fn shape_command<'a>(alloc: Global) -> Result<Command<'a>, AllocError> {
-    Command::new(alloc, "shape")
+    Command::new(alloc, CommandName::Shape.word())
         .about("Prints how far a hand is from ready, and which tiles bring it nearer")
         .after_help(SHAPE_HELP)
         .arg(hand_arg(
@@ -127,7 +128,7 @@ fn rules_arg<'a>(alloc: Global) -> Arg<'a> {
 }
 
 fn line_command<'a>(alloc: Global) -> Result<Command<'a>, AllocError> {
-    let command = Command::new(alloc, "line")
+    let command = Command::new(alloc, CommandName::Line.word())
         .about("Answers hands from standard input or files, one a line: wins, waits, shapes")
         .after_help(LINE_HELP)
         .arg(rules_arg(alloc))?;
@@ -193,7 +194,7 @@ fn all_arg<'a>(alloc: Global) -> Arg<'a> {
 }
 
 fn explain_command<'a>(alloc: Global) -> Result<Command<'a>, AllocError> {
-    let command = Command::new(alloc, "explain")
+    let command = Command::new(alloc, CommandName::Explain.word())
         .about("Answers hands as the command line does, and says below each answer why it is so")
         .after_help(EXPLAIN_HELP)
         .arg(rules_arg(alloc))?
@@ -217,19 +218,19 @@ fn lines_arg<'a>(alloc: Global) -> Result<Arg<'a>, AllocError> {
 }
 
 fn codes_command<'a>(alloc: Global) -> Command<'a> {
-    Command::new(alloc, "help-codes")
+    Command::new(alloc, CommandName::HelpCodes.word())
         .about("Prints every refusal, fault and exit status in words")
         .after_help(CODES_HELP)
 }
 
 fn yaku_command<'a>(alloc: Global) -> Command<'a> {
-    Command::new(alloc, "help-yaku")
+    Command::new(alloc, CommandName::HelpYaku.word())
         .about("Prints every yaku: its word, its Japanese name, its han and its condition")
         .after_help(YAKU_HELP)
 }
 
 fn rules_command<'a>(alloc: Global) -> Command<'a> {
-    Command::new(alloc, "help-rules")
+    Command::new(alloc, CommandName::HelpRules.word())
         .about("Prints every rule that a table may choose, and which the profiles have")
         .after_help(RULES_HELP)
 }
@@ -240,14 +241,14 @@ fn replay_command<'a>(alloc: Global) -> Result<Command<'a>, AllocError> {
         "FILE",
         "A script: open, submit, arrive, take, withdraw, close, one a line",
     );
-    Command::new(alloc, "replay")
+    Command::new(alloc, CommandName::Replay.word())
         .about("Answers a script of tables that submit hands and are given their answers in order")
         .after_help(REPLAY_HELP)
         .arg(file.required(true))
 }
 
 fn score_command<'a>(alloc: Global) -> Result<Command<'a>, AllocError> {
-    Command::new(alloc, "score")
+    Command::new(alloc, CommandName::Score.word())
         .about("Answers hands from files, table by table, with many threads")
         .after_help(SCORE_HELP)
         .arg(rules_arg(alloc))?

@@ -3,16 +3,16 @@ ghost use Rattle.arrayvec.specs.ArrayString.{array_string_len};
 ghost use Rattle.desk_core.specs.AnswerText as spec;
 
 use crate::answer::Answer;
-use arrayvec::ArrayString;
 use riichi_score::push_win;
-use riichi_shape::push_shape;
+use riichi_shape::{MOST_SHAPE, push_shape};
 use riichi_split::waits_text;
+use riichi_text::{ANSWER_ROOM, AnswerText};
 
 /// The answer on one line, without the line's end.
-pub fn answer_text(answer: &Answer) -> ArrayString<3072>
+pub fn answer_text(answer: &Answer) -> AnswerText
     ensures { result.bytes ≡ spec.answer_text answer.now }
 {
-    let mut text = ArrayString::new();
+    let mut text = AnswerText::new();
     push_answer(&mut text, answer);
     text
 }
@@ -20,8 +20,8 @@ pub fn answer_text(answer: &Answer) -> ArrayString<3072>
 /// Writes the answer behind a text, without the line's end. A text that is kept need not be made anew
 /// for each answer.
 #[tactic(auto, unfolding(crate::specs::AnswerText::answer_text))]
-pub fn push_answer(text: &mut ArrayString<3072>, answer: &Answer)
-    requires { array_string_len text.old + 2890 ≤ 3072 }
+pub fn push_answer(text: &mut AnswerText, answer: &Answer)
+    requires { array_string_len text.old + MOST_SHAPE ≤ ANSWER_ROOM }
     ensures { text.new.bytes ≡ text.old.bytes ++ spec.answer_text answer.now }
 {
     match answer {

@@ -2,7 +2,7 @@
 use crate::facts::same;
 use desk_core::{Answer, judge};
 use desk_json::{JsonText, answer_text, push_refusal, refusal_text};
-use riichi_hand::{RuleSet, Rules, Switch, read_line, read_placed};
+use riichi_hand::{Rules, Switch, read_line, read_placed};
 use std::process::Abort;
 use std::test::Fail;
 
@@ -132,7 +132,7 @@ fn judged(rules: Rules, line: &str) -> Result<Answer, Fail> {
 fn check(rt: &impl Abort, rules: Rules, row: &Row) -> Result<(), Fail> {
     same(
         rt,
-        answer_text(RuleSet::of(rules), &judged(rules, row.line)?).as_str(),
+        answer_text(rules, &judged(rules, row.line)?).as_str(),
         row.text,
     );
     Ok(())
@@ -177,14 +177,13 @@ const HOUSE_RULES: [Row; 4] = [
 #[test]
 fn rules_of_a_house(rt: HostRuntime) -> Result<(), Fail> {
     let house = Rules::One
-        .house()
         .with(Switch::RedFives, true)
         .with(Switch::Ura, false);
     for row in &HOUSE_RULES {
-        check(&rt, Rules::House(house), row)?;
+        check(&rt, house, row)?;
     }
     for row in &WINS {
-        check(&rt, Rules::House(Rules::One.house()), row)?;
+        check(&rt, Rules::One, row)?;
     }
     Ok(())
 }

@@ -56,7 +56,7 @@ fn reasons_of_wins(rt: HostRuntime) -> Result<(), Fail> {
 /// The rules of a house stand before the reasons.
 #[test]
 fn reasons_under_the_rules_of_a_house(rt: HostRuntime) -> Result<(), Fail> {
-    let rules = Rules::House(Rules::Two.house().with(Switch::Ura, false));
+    let rules = Rules::Two.with(Switch::Ura, false);
     let text = explained(rules, "win 123456789m22s34p on=9s by=ron seat=S round=E")?;
     same(
         &rt,

@@ -1,7 +1,7 @@
 -- The pieces of a text that many threads answer.
 use Rattle.std.specs.Prelude.{◌≡◌, ℕ, ◌*◌, ◌+◌, ◌-◌, min, List, ◌++◌, map, length, take, drop, MatchOption}
 use Rattle.std.specs.List.{All, concat}
-use Rattle.riichi_hand.specs.declared.win.Rules.{Rules}
+use Rattle.riichi_hand.specs.Rules.{Rules}
 use Rattle.desk_lines.specs.declared.report.DeskReport.{DeskReport}
 use Rattle.desk_lines.specs.LineAnswer.{line_kind}
 use Rattle.desk_lines.specs.Lines.{cut_of, ended_lines}

@@ -53,6 +53,11 @@ fn held(number: u128) -> u64
 }
 
 impl fmt::Display for Reached {
+    ghost use Rattle.std.specs.Prelude.{Some};
+    ghost use Rattle.desk_io.specs.Reached.{reached_text};
+
+    ghost output = { λ reached. Some (reached_text reached) };
+
     /// As `35 %, 400000 lines a second, 2 min 5 s left`, or, where the whole isn't known, as
     /// `1200000 lines, 400000 lines a second`.
     fn fmt<W: fmt::Write>(&self, f: &mut fmt::Formatter<W>) -> fmt::Result {
@@ -60,8 +65,8 @@ impl fmt::Display for Reached {
         match self.whole {
             Some(whole) => {
                 let share = share_done(self.done, whole);
-                write!(f, "{share} %, {rate} lines a second")?;
-                write_left(f, seconds_left(self.done, whole, self.millis))
+                let left = Left(seconds_left(self.done, whole, self.millis));
+                write!(f, "{share} %, {rate} lines a second{left}")
             }
             None => {
                 let lines = self.lines;
@@ -72,13 +77,23 @@ impl fmt::Display for Reached {
 }
 
 /// How many seconds are left, where that is known: from a minute on, in minutes too.
-fn write_left<W: fmt::Write>(f: &mut fmt::Formatter<W>, left: Option<u64>) -> fmt::Result {
-    match left {
-        None => Ok(()),
-        Some(seconds) if seconds < 60 => write!(f, ", {seconds} s left"),
-        Some(seconds) => {
-            let (minutes, seconds) = (seconds / 60, seconds % 60);
-            write!(f, ", {minutes} min {seconds} s left")
+#[derive(Drop)]
+struct Left(Option<u64>);
+
+impl fmt::Display for Left {
+    ghost use Rattle.std.specs.Prelude.{Some};
+    ghost use Rattle.desk_io.specs.Reached.{left_text};
+
+    ghost output = { λ left. Some (left_text left.0) };
+
+    fn fmt<W: fmt::Write>(&self, f: &mut fmt::Formatter<W>) -> fmt::Result {
+        match self.0 {
+            None => Ok(()),
+            Some(seconds) if seconds < 60 => write!(f, ", {seconds} s left"),
+            Some(seconds) => {
+                let (minutes, seconds) = (seconds / 60, seconds % 60);
+                write!(f, ", {minutes} min {seconds} s left")
+            }
         }
     }
 }

@@ -4,7 +4,7 @@ use Rattle.std.specs.Prelude.{codes, ◌==◌}
 use Rattle.std.specs.Fmt.{signed_decimal}
 use Rattle.json.specs.Json.{Json, string}
 use Rattle.json.specs.Print.{escape, escape_byte, quoted}
-use Rattle.riichi_hand.specs.declared.house.House.{House}
+use Rattle.riichi_hand.specs.Rules.{Rules}
 use Rattle.riichi_hand.specs.RulesWords.{rules_words, is_house, house_words}
 use Rattle.riichi_score.specs.declared.payers.Payment.{Payment}
 use Rattle.riichi_score.specs.declared.payers.Payment.TheVariants.{Ron, Tsumo, DealerTsumo}
@@ -82,14 +82,14 @@ grouped a t b h c f d o e s g l i p j n k y x r z = simp append_assoc
 rules_with : (words : List ℕ) → escape words ≡ words → codes ",\"rules\":" ++ (quoted words ++ codes "}") ≡ (codes ",\"rules\":\"" ++ words ++ codes "\"") ++ codes "}"
 rules_with words same = simp (append_assoc, same)
 
-rules_written : (rules : House) → members_written true (members_of (rules_members rules)) ≡ parts.rules_json rules ++ codes "}"
+rules_written : (rules : Rules) → members_written true (members_of (rules_members rules)) ≡ parts.rules_json rules ++ codes "}"
 unfolding written escape_byte house_words
 rules_written rules =
     let words = rules_words rules in
     elim (is_house rules) as (λ test. members_written true (members_of (cond test ((codes "rules", string words) ∷ []) [])) ≡ cond test (codes ",\"rules\":\"" ++ words ++ codes "\"") [] ++ codes "}")
     [ true ↦ rules_with words (escape_rules rules) | false ↦ refl ]
 
-score_written : (rules : House) (score : Score) → written (score_tree rules score) ≡ (score_json score ++ parts.rules_json rules) ++ codes "}"
+score_written : (rules : Rules) (score : Score) → written (score_tree rules score) ≡ (score_json score ++ parts.rules_json rules) ++ codes "}"
 unfolding written escape_byte score_tree score_json worth_json points_json score_with
 score_written rules score =
     same_score score _ (truth_json (is_yakuman score.yaku)) _ (limit_json score.base) _ (payment_json score.payment) _ (yaku_list_json score.yaku ++ codes "]") _ (parts.rules_json rules ++ codes "}")
@@ -99,10 +99,10 @@ score_written rules score =
     (codes ",\"payment\":") (payment_json score.payment) (codes ",\"gain\":") (decimal score.gain) (codes ",\"yaku\":[") (yaku_list_json score.yaku) (codes "]") (parts.rules_json rules) (codes "}")
 
 -- an answer's sort, and the rules behind it
-sort_written : (sort : List ℕ) (rules : House) → sort ++ members_written true (members_of (rules_members rules)) ≡ (sort ++ parts.rules_json rules) ++ codes "}"
+sort_written : (sort : List ℕ) (rules : Rules) → sort ++ members_written true (members_of (rules_members rules)) ≡ (sort ++ parts.rules_json rules) ++ codes "}"
 sort_written sort rules = ap (λ t. sort ++ t) (rules_written rules) ∙ sym (append_assoc sort (parts.rules_json rules) (codes "}"))
 
-pub win_written : (rules : House) (win : WinAnswer) → answer_json rules (answer.Win win) ≡ parts.win_json rules win
+pub win_written : (rules : Rules) (win : WinAnswer) → answer_json rules (answer.Win win) ≡ parts.win_json rules win
 unfolding answer_tree win_tree parts.win_json parts.open_win_json parts.worth_members_json written escape_byte
 win_written rules (Won score) = text_written (score_tree rules score) ∙ score_written rules score
 win_written rules NoYaku = text_written (win_tree rules NoYaku) ∙ sort_written (codes "{\"answer\":\"no yaku\"") rules
@@ -117,7 +117,7 @@ kind_written kind = ap (λ t. 34 ∷ (t ++ 34 ∷ [])) (escape_kind kind)
 pub list_ends : (a y x z : List ℕ) → a ++ ((y ++ x) ++ z) ≡ (a ++ y) ++ (x ++ z)
 list_ends a y x z = simp append_assoc
 
-pub waits_written : (rules : House) (marks : ℕ) → answer_json rules (answer.Waits marks) ≡ parts.waits_json marks
+pub waits_written : (rules : Rules) (marks : ℕ) → answer_json rules (answer.Waits marks) ≡ parts.waits_json marks
 unfolding answer_tree waits_tree parts.waits_json written escape_byte
 waits_written rules marks =
     text_written (waits_tree marks)
@@ -167,7 +167,7 @@ accepts_written (Fourteen discards) =
 shape_ends : (a s c t : List ℕ) → a ++ (s ++ (c ++ t)) ≡ ((a ++ s) ++ c) ++ t
 shape_ends a s c t = simp append_assoc
 
-pub shape_written : (rules : House) (shape : ShapeAnswer) → answer_json rules (answer.Shape shape) ≡ shape_json shape
+pub shape_written : (rules : Rules) (shape : ShapeAnswer) → answer_json rules (answer.Shape shape) ≡ shape_json shape
 unfolding answer_tree shape_tree shape_json written escape_byte
 shape_written rules shape =
     text_written (shape_tree shape)

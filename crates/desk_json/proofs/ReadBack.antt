@@ -6,7 +6,7 @@ use Rattle.json.specs.Json.{Json, null, string, document}
 use Rattle.json.specs.Tree.{depth, items_depth, members_depth, HasNumbers, ItemsHaveNumbers, MembersHaveNumbers}
 use Rattle.json.proofs.Printed.Decimals.{IsNumber-decimal, IsNumber-signed_decimal}
 use Rattle.json.proofs.Printed.Trees.{document-print}
-use Rattle.riichi_hand.specs.declared.house.House.{House}
+use Rattle.riichi_hand.specs.Rules.{Rules}
 use Rattle.riichi_hand.specs.RulesWords.{rules_words, is_house}
 use Rattle.riichi_score.specs.declared.payers.Payment.{Payment}
 use Rattle.riichi_score.specs.declared.payers.Payment.TheVariants.{Ron, Tsumo, DealerTsumo}
@@ -19,7 +19,7 @@ use Rattle.riichi_shape.specs.declared.discard.Discard.{Discard}
 use Rattle.riichi_yaku.specs.declared.table.Yaku.{Yaku}
 use Rattle.riichi_yaku.specs.Table as table
 use Rattle.riichi_yaku.specs.YakuSets.{yaku_in}
-use Rattle.riichi_yaku.proofs.Sets.{below_42}
+use Rattle.riichi_yaku.proofs.Sets.{below_count}
 use Rattle.desk_core.specs.declared.answer.Answer.{Answer}
 use Rattle.desk_core.specs.declared.answer.Answer.TheVariants as answer
 use Rattle.desk_json.specs.Text.{json_text, answer_json}
@@ -35,7 +35,7 @@ items_numbers tree P each (x ∷ xs) h = (each x h.0, items_numbers tree P each 
 
 yaku_numbers : (yaku : Yaku) → HasNumbers (yaku_tree yaku)
 unfolding yaku_tree
-yaku_numbers yaku = (IsNumber-decimal (table.number yaku) (omega (arith, below_42 yaku)), (tt, (tt, tt)))
+yaku_numbers yaku = (IsNumber-decimal (table.number yaku) (omega (arith, below_count yaku)), (tt, (tt, tt)))
 
 limit_numbers : (base : ℕ) → HasNumbers (limit_tree base)
 unfolding limit_tree
@@ -52,12 +52,12 @@ payment_numbers (Ron points) h = (IsNumber-decimal points (omega arith), tt)
 payment_numbers (Tsumo other dealer) h = (IsNumber-decimal dealer (omega arith), (IsNumber-decimal other (omega arith), tt))
 payment_numbers (DealerTsumo each) h = (IsNumber-decimal each (omega arith), tt)
 
-rules_numbers : (rules : House) → MembersHaveNumbers (members_of (rules_members rules))
+rules_numbers : (rules : Rules) → MembersHaveNumbers (members_of (rules_members rules))
 rules_numbers rules =
     elim (is_house rules) as (λ test. MembersHaveNumbers (members_of (cond test ((codes "rules", string (rules_words rules)) ∷ []) [])))
     [ true ↦ (tt, tt) | false ↦ tt ]
 
-score_numbers : (rules : House) (score : Score) → IsWholeScore score → HasNumbers (score_tree rules score)
+score_numbers : (rules : Rules) (score : Score) → IsWholeScore score → HasNumbers (score_tree rules score)
 unfolding score_tree
 score_numbers rules score h =
     let han = IsNumber-decimal score.han (omega arith) in
@@ -68,7 +68,7 @@ score_numbers rules score h =
     let yaku = items_numbers yaku_tree (λ yaku. Unit {0}) (λ yaku h. yaku_numbers yaku) (yaku_in score.yaku) (each_of_all (yaku_in score.yaku)) in
     (tt, (tt, (han, (fu, (dora, (base, (limit_numbers score.base, (payment_numbers score.payment h.payment, (gain, (yaku, rules_numbers rules))))))))))
 
-win_numbers : (rules : House) (win : WinAnswer) → IsWholeWin win → HasNumbers (win_tree rules win)
+win_numbers : (rules : Rules) (win : WinAnswer) → IsWholeWin win → HasNumbers (win_tree rules win)
 unfolding win_tree
 win_numbers rules (Won score) h = score_numbers rules score h
 win_numbers rules other h = (tt, rules_numbers rules)
@@ -92,7 +92,7 @@ accepts_numbers : (accepts : Accepts) → IsWholeAccepts accepts → MembersHave
 accepts_numbers (Thirteen accepted) h = accepted_numbers accepted h
 accepts_numbers (Fourteen discards) h = (items_numbers discard_tree IsWholeDiscard discard_numbers discards h, tt)
 
-numbers : (rules : House) (a : Answer) → IsWhole a → HasNumbers (answer_tree rules a)
+numbers : (rules : Rules) (a : Answer) → IsWhole a → HasNumbers (answer_tree rules a)
 unfolding answer_tree waits_tree shape_tree
 numbers rules (answer.Win win) h = win_numbers rules win h
 numbers rules (answer.Waits marks) h = (tt, (kinds_numbers (kinds_held marks), tt))
@@ -122,18 +122,18 @@ unfolding payment_tree
 payment_shallow (Ron points) = omega arith
 payment_shallow _ = omega arith
 
-rules_shallow : (rules : House) → members_depth (members_of (rules_members rules)) ≤ 0
+rules_shallow : (rules : Rules) → members_depth (members_of (rules_members rules)) ≤ 0
 rules_shallow rules =
     elim (is_house rules) as (λ test. members_depth (members_of (cond test ((codes "rules", string (rules_words rules)) ∷ []) [])) ≤ 0)
     [ true ↦ omega arith | false ↦ omega arith ]
 
-score_shallow : (rules : House) (score : Score) → depth (score_tree rules score) ≤ 3
+score_shallow : (rules : Rules) (score : Score) → depth (score_tree rules score) ≤ 3
 unfolding score_tree
 score_shallow rules score =
     let yaku = items_shallow yaku_tree 1 yaku_shallow (yaku_in score.yaku) in
     omega (arith, limit_shallow score.base, payment_shallow score.payment, yaku, rules_shallow rules)
 
-win_shallow : (rules : House) (win : WinAnswer) → depth (win_tree rules win) ≤ 3
+win_shallow : (rules : Rules) (win : WinAnswer) → depth (win_tree rules win) ≤ 3
 unfolding win_tree
 win_shallow rules (Won score) = score_shallow rules score
 win_shallow rules other = omega (arith, rules_shallow rules)
@@ -156,7 +156,7 @@ accepts_shallow : (accepts : Accepts) → members_depth (members_of (accepts_mem
 accepts_shallow (Thirteen accepted) = omega (arith, accepted_shallow accepted)
 accepts_shallow (Fourteen discards) = omega (arith, items_shallow discard_tree 3 discard_shallow discards)
 
-shallow : (rules : House) (a : Answer) → depth (answer_tree rules a) ≤ 5
+shallow : (rules : Rules) (a : Answer) → depth (answer_tree rules a) ≤ 5
 unfolding answer_tree waits_tree shape_tree
 shallow rules (answer.Win win) = omega (arith, win_shallow rules win)
 shallow rules (answer.Waits marks) = omega (arith, items_shallow kind_tree 0 kind_shallow (kinds_held marks))
@@ -164,10 +164,10 @@ shallow rules (answer.Shape shape) = omega (arith, accepts_shallow shape.accepts
 
 -- ---- answers
 
-pub reads_back : (rules : House) (a : Answer) → IsWhole a → document (answer_json rules a) ≡ Some (answer_tree rules a)
+pub reads_back : (rules : Rules) (a : Answer) → IsWhole a → document (answer_json rules a) ≡ Some (answer_tree rules a)
 unfolding json_text
 reads_back rules a h = document-print (answer_tree rules a) (numbers rules a h) (omega (arith, shallow rules a))
 
-pub same_texts : (rules others : House) (a b : Answer) → IsWhole a → IsWhole b → answer_json rules a ≡ answer_json others b → a ≡ b
+pub same_texts : (rules others : Rules) (a b : Answer) → IsWhole a → IsWhole b → answer_json rules a ≡ answer_json others b → a ≡ b
 same_texts rules others a b h k e =
     same_answers rules others a b h k (same_Some (answer_tree rules a) (answer_tree others b) (sym (reads_back rules a h) ∙ ap document e ∙ reads_back others b k))

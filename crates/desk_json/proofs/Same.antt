@@ -8,7 +8,7 @@ use Rattle.std.specs.Int.{bit_at}
 use Rattle.std.specs.List.{filter, range_with_len}
 use Rattle.std.specs.Prelude.{codes, ◌==◌}
 use Rattle.json.specs.Json.{Json, string, object, Members, no_members, member}
-use Rattle.riichi_hand.specs.declared.house.House.{House}
+use Rattle.riichi_hand.specs.Rules.{Rules}
 use Rattle.riichi_score.specs.declared.payers.Payment.{Payment}
 use Rattle.riichi_score.specs.declared.payers.Payment.TheVariants.{Ron, Tsumo, DealerTsumo}
 use Rattle.riichi_score.specs.declared.score.Score.{Score}
@@ -24,8 +24,9 @@ use Rattle.riichi_tiles.proofs.KindSets.{same_members}
 use Rattle.riichi_yaku.specs.declared.table.Yaku.{Yaku}
 use Rattle.riichi_yaku.specs.declared.table.Yaku.TheVariants.{Riichi}
 use Rattle.riichi_yaku.specs.Table.{every_yaku, number}
+use Rattle.riichi_yaku.specs.declared.table.TheConstants.Yaku.{COUNT}
 use Rattle.riichi_yaku.specs.YakuSets.{yaku_in}
-use Rattle.riichi_yaku.proofs.Sets.{in_table, below_42}
+use Rattle.riichi_yaku.proofs.Sets.{in_table, below_count}
 use Rattle.desk_core.specs.declared.answer.Answer.{Answer}
 use Rattle.desk_core.specs.declared.answer.Answer.TheVariants as answer
 use Rattle.desk_json.specs.Trees.{answer_of_sort, json_items, list_of, members_of, natural, kind_tree, yaku_tree, payment_tree, score_tree, win_tree, kinds_held, waits_tree, live_tree, accepted_members, discard_tree, accepts_members, shape_tree, answer_tree}
@@ -123,25 +124,25 @@ same_yaku : (x y : Yaku) → yaku_tree x ≡ yaku_tree y → x ≡ y
 unfolding yaku_tree
 same_yaku x y e =
     let trees : natural (number x) ≡ natural (number y) = cc in
-    let numbers : number x ≡ number y = same_numbers (number x) (number y) (omega (arith, below_42 x)) (omega (arith, below_42 y)) trees in
+    let numbers : number x ≡ number y = same_numbers (number x) (number y) (omega (arith, below_count x)) (omega (arith, below_count y)) trees in
     sym (in_table x) ∙ ap (λ n. get_or every_yaku n Riichi) numbers ∙ in_table y
 
 -- whether a set has the yaku of a number
 has : ℕ → ℕ → Bool
 has set n = bit_at set n == 1
 
-numbers_in : (set : ℕ) → map number (yaku_in set) ≡ filter (has set) (range_with_len 0 42)
+numbers_in : (set : ℕ) → map number (yaku_in set) ≡ filter (has set) (range_with_len 0 COUNT)
 unfolding yaku_in has
 numbers_in set =
-    let numbers : map number every_yaku ≡ range_with_len 0 42 = refl in
+    let numbers : map number every_yaku ≡ range_with_len 0 COUNT = refl in
     chosen_values number (has set) every_yaku ∙ ap (filter (has set)) numbers
 
-same_sets : (a b : ℕ) → a < 2 ^ 42 → b < 2 ^ 42 → json_items yaku_tree (yaku_in a) ≡ json_items yaku_tree (yaku_in b) → a ≡ b
+same_sets : (a b : ℕ) → a < 2 ^ COUNT → b < 2 ^ COUNT → json_items yaku_tree (yaku_in a) ≡ json_items yaku_tree (yaku_in b) → a ≡ b
 unfolding is_held has
 same_sets a b low high e =
     let yaku = same_items yaku_tree (λ y. Unit {0}) (λ x y h k. same_yaku x y) (yaku_in a) (yaku_in b) (each_of_all (yaku_in a)) (each_of_all (yaku_in b)) e in
     let numbers = sym (numbers_in a) ∙ ap (map number) yaku ∙ numbers_in b in
-    same_members 42 a b low high (λ i within. same_tests (has a) (has b) 0 42 numbers i (omega arith) (omega arith))
+    same_members COUNT a b low high (λ i within. same_tests (has a) (has b) 0 COUNT numbers i (omega arith) (omega arith))
 
 -- the second letter of an object's first name, by which payments differ
 second_letter : Json → ℕ
@@ -160,7 +161,7 @@ same_payments (Tsumo o d) (Tsumo o' d') h k e =
 same_payments (DealerTsumo m) (DealerTsumo n) h k e = let numbers : natural m ≡ natural n = cc in ap DealerTsumo (same_numbers m n (omega arith) (omega arith) numbers)
 same_payments p q h k e = absurd (omega (arith, ap second_letter e))
 
-same_scores : (rules others : House) (a b : Score) → IsWholeScore a → IsWholeScore b → score_tree rules a ≡ score_tree others b → a ≡ b
+same_scores : (rules others : Rules) (a b : Score) → IsWholeScore a → IsWholeScore b → score_tree rules a ≡ score_tree others b → a ≡ b
 unfolding score_tree
 same_scores rules others a b h k e =
     let hans : natural a.han ≡ natural b.han = cc in
@@ -184,7 +185,7 @@ sort_letter : Json → ℕ
 sort_letter (object (member name (string sort) more)) = get_or sort 3 0
 sort_letter json = 0
 
-same_wins : (rules others : House) (a b : WinAnswer) → IsWholeWin a → IsWholeWin b → win_tree rules a ≡ win_tree others b → a ≡ b
+same_wins : (rules others : Rules) (a b : WinAnswer) → IsWholeWin a → IsWholeWin b → win_tree rules a ≡ win_tree others b → a ≡ b
 unfolding win_tree score_tree sort_letter
 same_wins rules others (Won a) (Won b) h k e = ap Won (same_scores rules others a b h k e)
 same_wins rules others NoYaku NoYaku h k e = refl
@@ -260,12 +261,12 @@ same_shapes a b h k e =
 -- ---- answers
 
 -- a win's sort has another letter than those of waits and shapes
-win_apart : (rules : House) (win : WinAnswer) → (sort_letter (win_tree rules win) ≢ 116) × (sort_letter (win_tree rules win) ≢ 112)
+win_apart : (rules : Rules) (win : WinAnswer) → (sort_letter (win_tree rules win) ≢ 116) × (sort_letter (win_tree rules win) ≢ 112)
 unfolding win_tree score_tree sort_letter
 win_apart rules (Won score) = (λ e. omega (arith, e), λ e. omega (arith, e))
 win_apart rules other = (λ e. omega (arith, e), λ e. omega (arith, e))
 
-pub same_answers : (rules others : House) (a b : Answer) → IsWhole a → IsWhole b → answer_tree rules a ≡ answer_tree others b → a ≡ b
+pub same_answers : (rules others : Rules) (a b : Answer) → IsWhole a → IsWhole b → answer_tree rules a ≡ answer_tree others b → a ≡ b
 unfolding answer_tree waits_tree shape_tree sort_letter
 same_answers rules others (answer.Win a) (answer.Win b) h k e = ap answer.Win (same_wins rules others a b h k e)
 same_answers rules others (answer.Win a) (answer.Waits b) h k e = absurd ((win_apart rules a).0 (ap sort_letter e))

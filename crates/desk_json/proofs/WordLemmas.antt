@@ -10,11 +10,10 @@ use Rattle.json.specs.Print.{escape, escape_byte}
 use Rattle.json.proofs.Printed.Strings.{escape_byte_plain}
 use Rattle.riichi_text.specs.Tiles.{kind_text, letter_of}
 use Rattle.riichi_text.proofs.Letters.{letter_high}
-use Rattle.riichi_hand.specs.declared.house.House.{House}
-use Rattle.riichi_hand.specs.declared.house.Switch.{Switch}
-use Rattle.riichi_hand.specs.declared.house.Switch.TheVariants as switch
-use Rattle.riichi_hand.specs.Rules.{first_profile, second_profile, switch_word, is_on}
-use Rattle.riichi_hand.specs.RulesWords.{every_switch, sign, change_words, changed_words, rules_words}
+use Rattle.riichi_hand.specs.Rules.{Rules, every_switch, first_profile, second_profile, switch_word, is_on}
+use Rattle.riichi_hand.specs.declared.switch.Switch.{Switch}
+use Rattle.riichi_hand.specs.declared.switch.Switch.TheVariants as switch
+use Rattle.riichi_hand.specs.RulesWords.{sign, change_words, changed_words, rules_words}
 use Rattle.riichi_names.specs.Names.{japanese}
 use Rattle.riichi_yaku.specs.declared.table.Yaku.{Yaku}
 use Rattle.riichi_yaku.specs.declared.table.Yaku.TheVariants.{Riichi}
@@ -59,28 +58,28 @@ either_plain : (test : Bool) (s t : List ℕ) → list_all is_plain s ≡ true �
 either_plain true s t p q = p
 either_plain false s t p q = q
 
-change_plain : (profile house : House) (which : Switch) → list_all is_plain (change_words profile house which) ≡ true
+change_plain : (profile house : Rules) (which : Switch) → list_all is_plain (change_words profile house which) ≡ true
 unfolding change_words
 change_plain profile house which =
     let on = is_on which house in
     either_plain (beq on (is_on which profile)) [] (sign on ++ switch_word which) refl (both_plain (sign on) (switch_word which) (sign_plain on) (switch_word_plain which))
 
-changes_plain : (profile house : House) (switches : List Switch) → list_all is_plain (flat_map (change_words profile house) switches) ≡ true
+changes_plain : (profile house : Rules) (switches : List Switch) → list_all is_plain (flat_map (change_words profile house) switches) ≡ true
 changes_plain profile house [] = refl
 changes_plain profile house (which ∷ switches) =
     both_plain (change_words profile house which) (flat_map (change_words profile house) switches) (change_plain profile house which) (changes_plain profile house switches)
 
-changed_plain : (number : List ℕ) (profile house : House) → list_all is_plain number ≡ true → list_all is_plain (changed_words number profile house) ≡ true
+changed_plain : (number : List ℕ) (profile house : Rules) → list_all is_plain number ≡ true → list_all is_plain (changed_words number profile house) ≡ true
 unfolding changed_words
 changed_plain number profile house p = both_plain number (flat_map (change_words profile house) every_switch) p (changes_plain profile house every_switch)
 
-rules_plain : (house : House) → list_all is_plain (rules_words house) ≡ true
+rules_plain : (house : Rules) → list_all is_plain (rules_words house) ≡ true
 unfolding rules_words
 rules_plain house =
-    either_plain (house.red_fives && house.raise) (changed_words (codes "2") second_profile house) (changed_words (codes "1") first_profile house)
+    either_plain (is_on switch.RedFives house && is_on switch.Raise house) (changed_words (codes "2") second_profile house) (changed_words (codes "1") first_profile house)
     (changed_plain (codes "2") second_profile house refl) (changed_plain (codes "1") first_profile house refl)
 
-pub escape_rules : (house : House) → escape (rules_words house) ≡ rules_words house
+pub escape_rules : (house : Rules) → escape (rules_words house) ≡ rules_words house
 escape_rules house = escape_same (rules_words house) (rules_plain house)
 
 pub escape_kind : (kind : ℕ) → escape (kind_text kind) ≡ kind_text kind

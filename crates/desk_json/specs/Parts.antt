@@ -5,7 +5,7 @@ use Rattle.riichi_hand.specs.FaultTexts.{line_code_text, notation_code_text, nam
 use Rattle.riichi_hand.specs.declared.fault.LineFault.{LineFault}
 use Rattle.riichi_hand.specs.declared.fault.LineFault.TheVariants.{Line, Notation}
 use Rattle.riichi_hand.specs.declared.line.record.Place.{Place}
-use Rattle.riichi_hand.specs.declared.house.House.{House}
+use Rattle.riichi_hand.specs.Rules.{Rules}
 use Rattle.riichi_hand.specs.RulesWords.{house_words}
 use Rattle.riichi_refusals.specs.Meaning.{refusal_key, refusal_place, refusal_words}
 use Rattle.riichi_names.specs.Names.{japanese}
@@ -85,13 +85,13 @@ worth_members_json NoYaku = codes "{\"answer\":\"no yaku\""
 worth_members_json NoWin = codes "{\"answer\":\"no win\""
 
 -- the rules, where they are neither profile
-abbrev pub rules_json : House → List ℕ
+abbrev pub rules_json : Rules → List ℕ
 rules_json rules = house_words (codes ",\"rules\":\"") (codes "\"") rules
 
-unfoldable pub open_win_json : House → WinAnswer → List ℕ
+unfoldable pub open_win_json : Rules → WinAnswer → List ℕ
 open_win_json rules win = worth_members_json win ++ rules_json rules
 
-unfoldable pub win_json : House → WinAnswer → List ℕ
+unfoldable pub win_json : Rules → WinAnswer → List ℕ
 win_json rules win = open_win_json rules win ++ codes "}"
 
 -- ---- waits

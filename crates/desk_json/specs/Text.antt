@@ -7,7 +7,7 @@ use Rattle.json.specs.Tree.{json_tokens}
 use Rattle.riichi_hand.specs.declared.fault.LineCode.TheVariants.{H1}
 use Rattle.riichi_hand.specs.declared.fault.LineFault.{LineFault}
 use Rattle.riichi_hand.specs.declared.fault.LineFault.TheVariants.{Line}
-use Rattle.riichi_hand.specs.declared.house.House.{House}
+use Rattle.riichi_hand.specs.Rules.{Rules}
 use Rattle.riichi_refusals.specs.Meaning.{long_keys_alike, long_places_alike, long_words_alike}
 use Rattle.desk_core.specs.declared.answer.Answer.{Answer}
 use Rattle.desk_json.specs.Trees.{answer_tree, refused_tree, refusal_tree}
@@ -16,7 +16,7 @@ use Rattle.desk_json.specs.Trees.{answer_tree, refused_tree, refusal_tree}
 unfoldable pub json_text : Json → List ℕ
 json_text json = print (json_tokens json)
 
-abbrev pub answer_json : House → Answer → List ℕ
+abbrev pub answer_json : Rules → Answer → List ℕ
 answer_json rules answer = json_text (answer_tree rules answer)
 
 abbrev pub refusal_json : List ℕ → LineFault → List ℕ

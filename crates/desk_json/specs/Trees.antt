@@ -8,7 +8,7 @@ use Rattle.riichi_hand.specs.FaultTexts.{line_code_text, notation_code_text, nam
 use Rattle.riichi_hand.specs.declared.fault.LineFault.{LineFault}
 use Rattle.riichi_hand.specs.declared.fault.LineFault.TheVariants.{Line, Notation}
 use Rattle.riichi_hand.specs.declared.line.record.Place.{Place}
-use Rattle.riichi_hand.specs.declared.house.House.{House}
+use Rattle.riichi_hand.specs.Rules.{Rules}
 use Rattle.riichi_hand.specs.RulesWords.{rules_words, is_house}
 use Rattle.riichi_refusals.specs.Meaning.{refusal_key, refusal_place, refusal_words}
 use Rattle.riichi_names.specs.Names.{japanese}
@@ -88,10 +88,10 @@ payment_tree (Tsumo other dealer) = object_of ((codes "dealer", natural dealer) 
 payment_tree (DealerTsumo each) = object_of ((codes "each", natural each) ∷ [])
 
 -- the rules of a win, behind the other members, where they are neither profile
-abbrev pub rules_members : House → List Named
+abbrev pub rules_members : Rules → List Named
 rules_members rules = if is_house rules then (codes "rules", string (rules_words rules)) ∷ [] else []
 
-unfoldable pub score_tree : House → Score → Json
+unfoldable pub score_tree : Rules → Score → Json
 score_tree rules score = answer_of_sort (codes "won") (
     (codes "yakuman", boolean (is_yakuman score.yaku))
     ∷ (codes "han", natural score.han)
@@ -104,7 +104,7 @@ score_tree rules score = answer_of_sort (codes "won") (
     ∷ (codes "yaku", list_of yaku_tree (yaku_in score.yaku))
     ∷ rules_members rules)
 
-unfoldable pub win_tree : House → WinAnswer → Json
+unfoldable pub win_tree : Rules → WinAnswer → Json
 win_tree rules (Won score) = score_tree rules score
 win_tree rules NoYaku = answer_of_sort (codes "no yaku") (rules_members rules)
 win_tree rules NoWin = answer_of_sort (codes "no win") (rules_members rules)
@@ -141,7 +141,7 @@ shape_tree shape = answer_of_sort (codes "shape") ((codes "shanten", number (sig
 -- ---- answers
 
 -- the answer under these rules, which wins alone ask for
-unfoldable pub answer_tree : House → Answer → Json
+unfoldable pub answer_tree : Rules → Answer → Json
 answer_tree rules (answer.Win win) = win_tree rules win
 answer_tree rules (answer.Waits kinds) = waits_tree kinds
 answer_tree rules (answer.Shape shape) = shape_tree shape

@@ -11,6 +11,7 @@ use Rattle.riichi_shape.specs.declared.accepts.Accepts.{Accepts}
 use Rattle.riichi_shape.specs.declared.accepts.Accepts.TheVariants.{Thirteen, Fourteen}
 use Rattle.riichi_shape.specs.declared.discard.Discard.{Discard}
 use Rattle.riichi_shape.specs.declared.shape_answer.ShapeAnswer.{ShapeAnswer}
+use Rattle.riichi_yaku.specs.declared.table.TheConstants.Yaku.{COUNT}
 use Rattle.desk_core.specs.declared.answer.Answer.{Answer}
 use Rattle.desk_core.specs.declared.answer.Answer.TheVariants as answer
 
@@ -29,7 +30,7 @@ pub record IsWholeScore (score : Score) : Type 0 where
   pub dora : score.dora < 2 ^ 8
   pub base : score.base < 2 ^ 32
   pub gain : score.gain < 2 ^ 32
-  pub yaku : score.yaku < 2 ^ 42
+  pub yaku : score.yaku < 2 ^ COUNT
   pub payment : IsWholePayment score.payment
 
 -- a kind with its live copies

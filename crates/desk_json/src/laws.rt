@@ -6,13 +6,13 @@ ghost use Rattle.desk_json.specs.Trees.{answer_tree};
 ghost use Rattle.desk_json.specs.Whole as spec;
 
 use desk_core::Answer;
-use riichi_hand::RuleSet;
+use riichi_hand::Rules;
 use riichi_score::{Payment, Score, WinAnswer};
 use riichi_shape::{Accepts, Discard, DiscardList, LiveList, ShapeAnswer};
 
 /// What a reader of JSON reads in the text of an answer is the answer's tree.
 #[tactic(auto, using(crate::proofs::ReadBack::reads_back))]
-pub fn each_text_reads_back(rules: RuleSet, answer: &Answer)
+pub fn each_text_reads_back(rules: Rules, answer: &Answer)
     ensures { document (answer_json rules answer.now) ≡ Some (answer_tree rules answer.now) }
 {
     see_answer(answer);
@@ -21,9 +21,9 @@ pub fn each_text_reads_back(rules: RuleSet, answer: &Answer)
 /// Equal texts are those of equal answers, under the same rules or others.
 #[tactic(auto, using(crate::proofs::ReadBack::same_texts))]
 pub fn equal_texts_mean_equal_answers(
-    rules: RuleSet,
+    rules: Rules,
     one: &Answer,
-    other_rules: RuleSet,
+    other_rules: Rules,
     other: &Answer,
 )
     ensures { answer_json rules one.now ≡ answer_json other_rules other.now → one.now ≡ other.now }

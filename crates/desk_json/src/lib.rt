@@ -23,6 +23,6 @@ mod waits;
 mod win;
 mod yaku;
 
-pub use refusal::{push_refusal, refusal_text};
-pub use text::{JsonText, answer_text, push_answer};
-pub use win::push_open_win;
+pub use refusal::{MOST_REFUSAL, push_refusal, refusal_text};
+pub use text::{JSON_ROOM, JsonText, MOST_ANSWER, answer_text, push_answer};
+pub use win::{MOST_OPEN_WIN, push_open_win};

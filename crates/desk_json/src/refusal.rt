@@ -5,10 +5,25 @@ ghost use Rattle.riichi_hand.specs.Places.{fault_from};
 ghost use Rattle.desk_json.specs.Parts as parts;
 ghost use Rattle.desk_json.specs.Text as spec;
 
-use crate::text::JsonText;
+use crate::text::{JSON_ROOM, JsonText};
 use riichi_hand::{LineFault, Place, Refusal, line_code_text, name_text, notation_code_text};
-use riichi_refusals::{refusal_key, refusal_place, refusal_words};
-use riichi_text::push_number;
+use riichi_refusals::{MOST_FAULT_WORDS, MOST_KEY, refusal_key, refusal_place, refusal_words};
+use riichi_text::{MOST_U64, push_number};
+
+/// The bytes of the longest refusal.
+pub const MOST_REFUSAL: usize = MOST_CODE + MOST_KEY_MEMBER + MOST_PLACE + MOST_WORDS;
+
+const MOST_CODE: usize = "{\"answer\":\"refused\",\"code\":\"N1".len()
+    + "\",\"text\":\"".len()
+    + MOST_KEY
+    + "\",\"place\":".len()
+    + MOST_U64;
+
+const MOST_KEY_MEMBER: usize = ",\"key\":\"".len() + MOST_KEY + "\"".len();
+
+const MOST_PLACE: usize = ",\"at\":".len() + MOST_U64 + ",\"length\":".len() + MOST_U64;
+
+const MOST_WORDS: usize = ",\"words\":\"".len() + MOST_FAULT_WORDS + "\"}".len();
 
 /// The refusal of a line as one object, without the line's end.
 pub fn refusal_text(line: &[u8], refusal: &Refusal<'_>) -> JsonText
@@ -25,7 +40,7 @@ pub fn refusal_text(line: &[u8], refusal: &Refusal<'_>) -> JsonText
 /// fault, and what may stand there.
 #[tactic(auto, using(riichi_text::proofs::Pieces::pushed_four, crate::proofs::Refusals::refusal_written), unfolding(crate::specs::Parts::refusal_parts))]
 pub fn push_refusal(text: &mut JsonText, line: &[u8], refusal: &Refusal<'_>)
-    requires room { array_string_len text.old + 300 ≤ 12288 }
+    requires room { array_string_len text.old + MOST_REFUSAL ≤ JSON_ROOM }
     requires from { option_map (λ from. from.now) refusal.now.from
         ≡ fault_from refusal.now.fault line.now }
     ensures { text.new.bytes ≡ text.old.bytes ++ spec.refusal_json line.now refusal.now.fault }
@@ -39,9 +54,9 @@ pub fn push_refusal(text: &mut JsonText, line: &[u8], refusal: &Refusal<'_>)
 /// The code, and for a text of tiles its name and the place in it.
 #[tactic(auto, unfolding(crate::specs::Parts::code_json))]
 fn push_code(text: &mut JsonText, fault: &LineFault)
-    requires { array_string_len text.old + 80 ≤ 12288 }
+    requires { array_string_len text.old + MOST_CODE ≤ JSON_ROOM }
     ensures bytes { text.new.bytes ≡ text.old.bytes ++ parts.code_json fault.now }
-    ensures len { array_string_len text.new ≤ array_string_len text.old + 80 }
+    ensures len { array_string_len text.new ≤ array_string_len text.old + MOST_CODE }
 {
     text.push_str("{\"answer\":\"refused\",\"code\":\"");
     match fault {
@@ -61,11 +76,11 @@ fn push_code(text: &mut JsonText, fault: &LineFault)
 
 #[tactic(auto, unfolding(crate::specs::Parts::key_json))]
 fn push_key(text: &mut JsonText, key: Option<&str>)
-    requires room { array_string_len text.old + 20 ≤ 12288 }
-    requires short { IfSome key (λ key. length key.now ≤ 8) }
+    requires room { array_string_len text.old + MOST_KEY_MEMBER ≤ JSON_ROOM }
+    requires short { IfSome key (λ key. length key.now ≤ MOST_KEY) }
     ensures bytes { text.new.bytes
         ≡ text.old.bytes ++ parts.key_json (option_map (λ key. key.now) key.entry) }
-    ensures len { array_string_len text.new ≤ array_string_len text.old + 20 }
+    ensures len { array_string_len text.new ≤ array_string_len text.old + MOST_KEY_MEMBER }
 {
     if let Some(key) = key {
         text.push_str(",\"key\":\"");
@@ -76,9 +91,9 @@ fn push_key(text: &mut JsonText, key: Option<&str>)
 
 #[tactic(auto, unfolding(crate::specs::Parts::place_json))]
 fn push_place(text: &mut JsonText, place: Option<Place>)
-    requires { array_string_len text.old + 60 ≤ 12288 }
+    requires { array_string_len text.old + MOST_PLACE ≤ JSON_ROOM }
     ensures bytes { text.new.bytes ≡ text.old.bytes ++ parts.place_json place }
-    ensures len { array_string_len text.new ≤ array_string_len text.old + 60 }
+    ensures len { array_string_len text.new ≤ array_string_len text.old + MOST_PLACE }
 {
     if let Some(place) = place {
         text.push_str(",\"at\":");
@@ -91,8 +106,8 @@ fn push_place(text: &mut JsonText, place: Option<Place>)
 /// What may stand at the fault, and the brace that ends the object.
 #[tactic(auto, unfolding(crate::specs::Parts::words_json))]
 fn push_words(text: &mut JsonText, words: &str)
-    requires room { array_string_len text.old + 140 ≤ 12288 }
-    requires short { length words.now ≤ 120 }
+    requires room { array_string_len text.old + MOST_WORDS ≤ JSON_ROOM }
+    requires short { length words.now ≤ MOST_FAULT_WORDS }
     ensures { text.new.bytes ≡ text.old.bytes ++ parts.words_json words.now }
 {
     text.push_str(",\"words\":\"");

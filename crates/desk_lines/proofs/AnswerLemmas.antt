@@ -4,7 +4,7 @@ use Rattle.std.proofs.lemmas.List.{append-nil, map-append}
 use Rattle.std.specs.List.{filter_map, cons_option}
 use Rattle.std.proofs.lemmas.List.Elements.{filter_map-append}
 use Rattle.std.specs.Prelude.{is_some, unwrap_or}
-use Rattle.riichi_hand.specs.declared.win.Rules.{Rules}
+use Rattle.riichi_hand.specs.Rules.{Rules}
 use Rattle.desk_lines.specs.Profile.{profile_of, rules_of, record_lines, rules_by, record_rules}
 use Rattle.desk_lines.specs.declared.line_kind.LineKind.{LineKind}
 use Rattle.desk_lines.specs.declared.line_kind.LineKind.TheVariants.{Refused}

@@ -3,7 +3,7 @@ use Rattle.std.proofs.Common.{◌≡◌, inl, inr, ℕ, List, [], ◌∷◌, ◌
 use Rattle.std.specs.Prelude.{not, ◌&&◌}
 use Rattle.std.specs.List.{filter_map, cons_option}
 use Rattle.std.proofs.lemmas.Bool.{cases_Bool, eqb-true, and_parts}
-use Rattle.riichi_hand.specs.declared.win.Rules.{Rules}
+use Rattle.riichi_hand.specs.Rules.{Rules}
 use Rattle.riichi_hand.specs.Lines.{outcome_of}
 use Rattle.riichi_explain.specs.declared.explaining.Shown.{Shown}
 use Rattle.riichi_explain.specs.Explanation.{IsExplanation}

@@ -1,7 +1,7 @@
 -- One more line of a text that is answered into a room.
 use Rattle.std.proofs.Common.{◌≡◌, ◌⊎◌, ℕ, ◌+◌, ◌-◌, ◌<◌, ◌≤◌, inl, inr, List, [], ◌∷◌, ◌++◌, map, true, Option, Some, None, length, length-append, take, drop, refl, sym, ◌∙◌, ap, append_assoc, arith}
 use Rattle.std.proofs.lemmas.Slice.{drop-append-drop}
-use Rattle.riichi_hand.specs.declared.win.Rules.{Rules}
+use Rattle.riichi_hand.specs.Rules.{Rules}
 use Rattle.std.proofs.lemmas.List.{append-nil, take_all, take-append-le}
 use Rattle.desk_lines.specs.Lines.{Cut, cut_of, without_return, ended_lines, last_line, lines, is_plain}
 use Rattle.desk_lines.specs.Filling.{IsCutBehindLine, IsFirstLine, HasNoRoom, replies_by, SetsNone}

@@ -5,8 +5,7 @@ use Rattle.std.proofs.lemmas.List.{append-nil}
 use Rattle.riichi_hand.specs.declared.fault.LineFault.{LineFault}
 use Rattle.riichi_hand.specs.declared.fault.LineFault.TheVariants.{Line, Notation}
 use Rattle.riichi_hand.specs.declared.job.Job.{Job}
-use Rattle.riichi_hand.specs.declared.house.House.{House}
-use Rattle.riichi_hand.specs.declared.win.Rules.{Rules}
+use Rattle.riichi_hand.specs.Rules.{Rules}
 use Rattle.riichi_hand.specs.Lines.{outcome_of}
 use Rattle.riichi_score.specs.declared.answer.WinAnswer.{WinAnswer}
 use Rattle.riichi_score.specs.declared.answer.WinAnswer.TheVariants.{Won, NoYaku, NoWin}
@@ -25,13 +24,13 @@ use Rattle.desk_lines.specs.Telling.{has_answer}
 brace_of : (text parts : List ℕ) → text ≡ parts → codes "{" ++ drop 1 parts ≡ parts → codes "{" ++ drop 1 text ≡ text
 brace_of text parts is brace = ap (λ (all : List ℕ). codes "{" ++ drop 1 all) is ∙ brace ∙ sym is
 
-win_brace : (rules : House) (win : WinAnswer) → codes "{" ++ drop 1 (win_json rules win) ≡ win_json rules win
+win_brace : (rules : Rules) (win : WinAnswer) → codes "{" ++ drop 1 (win_json rules win) ≡ win_json rules win
 unfolding win_json open_win_json worth_members_json score_json worth_json
 win_brace rules (Won score) = refl
 win_brace rules NoYaku = refl
 win_brace rules NoWin = refl
 
-pub answer_brace : (rules : House) (told : Answer) → codes "{" ++ drop 1 (answer_json rules told) ≡ answer_json rules told
+pub answer_brace : (rules : Rules) (told : Answer) → codes "{" ++ drop 1 (answer_json rules told) ≡ answer_json rules told
 unfolding waits_json shape_json
 answer_brace rules (answer.Win win) = brace_of (answer_json rules (answer.Win win)) (win_json rules win) (win_written rules win) (win_brace rules win)
 answer_brace rules (answer.Waits marks) = brace_of (answer_json rules (answer.Waits marks)) (waits_json marks) (waits_written rules marks) refl

@@ -3,7 +3,7 @@ use Rattle.std.proofs.Common.{◌≡◌, ◌≢◌, ℕ, suc, ◌+◌, List, [],
 use Rattle.std.proofs.lemmas.List.{append-nil}
 use Rattle.std.proofs.Math.Seq.{take-append_seam}
 use Rattle.std.specs.Prelude.{is_some, unwrap_or}
-use Rattle.riichi_hand.specs.declared.win.Rules.{Rules}
+use Rattle.riichi_hand.specs.Rules.{Rules}
 use Rattle.desk_lines.specs.LongLines.{AreAlike}
 use Rattle.desk_lines.specs.Numbered.{AreNumbered, NumberRecords, first_number, with_number}
 use Rattle.desk_lines.specs.Profile.{profile_of, rules_of, record_lines}

@@ -1,8 +1,7 @@
 -- How the object of a win with its reasons is put.
 use Rattle.std.proofs.Common.{◌≡◌, ℕ, List, [], ◌∷◌, ◌++◌, drop, Option, Some, refl, sym, subst, ap, ◌∙◌}
 use Rattle.std.specs.Prelude.{codes}
-use Rattle.riichi_hand.specs.declared.house.House.{House}
-use Rattle.riichi_hand.specs.declared.win.Rules.{Rules}
+use Rattle.riichi_hand.specs.Rules.{Rules}
 use Rattle.riichi_hand.specs.declared.win.WinParts.{WinParts}
 use Rattle.riichi_hand.specs.Lines.{outcome_of}
 use Rattle.riichi_score.specs.Best.{best_of}
@@ -16,20 +15,20 @@ use Rattle.desk_lines.specs.Reasoned.{win_in, IsReasonedBy, IsReasoned, AreReaso
 use Rattle.desk_lines.specs.Records.{Puts}
 use Rattle.desk_lines.specs.declared.line_kind.LineKind.TheVariants.{Answered}
 
-win_brace : (rules : House) (win : WinAnswer) (named : Named) → codes "{" ++ drop 1 (written (with_member (win_tree rules win) named)) ≡ written (with_member (win_tree rules win) named)
+win_brace : (rules : Rules) (win : WinAnswer) (named : Named) → codes "{" ++ drop 1 (written (with_member (win_tree rules win) named)) ≡ written (with_member (win_tree rules win) named)
 unfolding with_member win_tree score_tree written
 win_brace rules (Won score) named = refl
 win_brace rules NoYaku named = refl
 win_brace rules NoWin named = refl
 
 object_written : (win : WinParts) (object : List ℕ) (said : IsExplainedWin win object)
-    → object ≡ written (with_member (win_tree win.rules (best_of win)) (codes "why", why_tree said.explanation said.ranking.ranked.items))
-object_written win object said = said.object_is ∙ text_written (with_member (win_tree win.rules (best_of win)) (codes "why", why_tree said.explanation said.ranking.ranked.items))
+    → object ≡ written (with_member (win_tree win.rules (best_of win)) (codes "why", why_tree said.explanation said.ranked))
+object_written win object said = said.object_is ∙ text_written (with_member (win_tree win.rules (best_of win)) (codes "why", why_tree said.explanation said.ranked))
 
 object_brace : (win : WinParts) (object : List ℕ) → IsExplainedWin win object → codes "{" ++ drop 1 object ≡ object
 object_brace win object said =
     let e = object_written win object said in
-    ap (λ (all : List ℕ). codes "{" ++ drop 1 all) e ∙ win_brace win.rules (best_of win) (codes "why", why_tree said.explanation said.ranking.ranked.items) ∙ sym e
+    ap (λ (all : List ℕ). codes "{" ++ drop 1 all) e ∙ win_brace win.rules (best_of win) (codes "why", why_tree said.explanation said.ranked) ∙ sym e
 
 -- the object of a win was made and put
 pub puts_explained : (rules : Rules) (line before after object : List ℕ) (win : WinParts) → Some win ≡ win_in (outcome_of rules line) → IsExplainedWin win object

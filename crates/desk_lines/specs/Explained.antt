@@ -1,7 +1,7 @@
 -- The answer to a line, followed by lines that explain it; each of these begins with two spaces.
 use Rattle.std.specs.Prelude.{◌≡◌, ℕ, List, [], ◌∷◌, ◌++◌, Bool, not, Option, None, Some, filter, nat_eq, codes}
 use Rattle.std.specs.List.{starts_with}
-use Rattle.riichi_hand.specs.declared.win.Rules.{Rules}
+use Rattle.riichi_hand.specs.Rules.{Rules}
 use Rattle.riichi_explain.specs.declared.explaining.Shown.{Shown}
 use Rattle.riichi_explain.specs.Explanation.{IsExplanation}
 use Rattle.desk_lines.specs.Lines.{cut_of}

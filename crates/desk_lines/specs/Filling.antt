@@ -1,7 +1,7 @@
 -- The lines of a text in memory, whose answers go into a room.
 use Rattle.std.specs.Prelude.{◌≡◌, ◌⊎◌, ℕ, ◌+◌, ◌-◌, ◌<◌, ◌≤◌, List, [], ◌∷◌, ◌++◌, length, drop, Option, None, Some}
 use Rattle.std.specs.List.{filter_map}
-use Rattle.riichi_hand.specs.declared.win.Rules.{Rules}
+use Rattle.riichi_hand.specs.Rules.{Rules}
 use Rattle.desk_lines.specs.Lines.{cut_of, lines}
 use Rattle.desk_lines.specs.Profile.{profile_of}
 use Rattle.desk_lines.specs.Records.{AnswerKind, AreTold}

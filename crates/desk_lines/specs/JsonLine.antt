@@ -1,17 +1,16 @@
 -- The answer to one line as JSON.
 use Rattle.std.specs.Prelude.{◌≡◌, ℕ, ◌<◌, List, ◌++◌, Option, Some, Result, length, codes, option_map}
 use Rattle.std.proofs.Common.{sym, ap, ◌∙◌}
-use Rattle.riichi_hand.specs.declared.win.Rules.{Rules}
+use Rattle.riichi_hand.specs.Rules.{Rules}
 use Rattle.riichi_hand.specs.declared.fault.LineFault.{LineFault}
 use Rattle.riichi_hand.specs.declared.job.Job.{Job}
 use Rattle.riichi_hand.specs.Lines.{outcome_of}
-use Rattle.riichi_hand.specs.Rules.{house_of}
 use Rattle.desk_json.specs.Text.{answer_json, refusal_json, long_texts_alike}
 use Rattle.desk_lines.specs.LineAnswer.{outcome_told, IsBy}
 use Rattle.desk_lines.specs.LongLines.{AreAlike, long_outcome}
 
 abbrev pub outcome_json : Rules → List ℕ → Result (Option Job) LineFault → Option (List ℕ)
-outcome_json rules line outcome = outcome_told (answer_json (house_of rules)) (refusal_json line) outcome
+outcome_json rules line outcome = outcome_told (answer_json rules) (refusal_json line) outcome
 
 -- the answer to a line as JSON
 unfoldable pub json_of : Rules → List ℕ → Option (List ℕ)

@@ -7,9 +7,8 @@ use Rattle.riichi_hand.specs.declared.fault.LineCode.TheVariants.{H1}
 use Rattle.riichi_hand.specs.declared.fault.LineFault.{LineFault}
 use Rattle.riichi_hand.specs.declared.fault.LineFault.TheVariants.{Line}
 use Rattle.riichi_hand.specs.declared.job.Job.{Job}
-use Rattle.riichi_hand.specs.declared.win.Rules.{Rules}
+use Rattle.riichi_hand.specs.Rules.{Rules}
 use Rattle.riichi_hand.specs.Faults.{first_fault, fault_or}
-use Rattle.riichi_hand.specs.Rules.{house_of}
 use Rattle.riichi_hand.specs.Jobs.{job_of}
 use Rattle.riichi_hand.specs.Lines.{outcome_of, is_no_record, is_other_byte, faults_of}
 use Rattle.riichi_hand.specs.Parts.{parts_of}
@@ -30,7 +29,7 @@ AreAlike May = (rules : Rules) (line other : List ℕ) (told : Option (List ℕ)
 abbrev short_outcome : Rules → List ℕ → Result (Option Job) LineFault
 short_outcome rules line =
     let parts = parts_of (words_of line) in
-    if is_no_record line then Ok None else fault_or (first_fault (faults_of (house_of rules) line parts)) (job_of (house_of rules) parts (texts_of parts) parts.job)
+    if is_no_record line then Ok None else fault_or (first_fault (faults_of rules line parts)) (job_of rules parts (texts_of parts) parts.job)
 
 pub long_outcome : (rules : Rules) (line : List ℕ) → 4096 < length line → outcome_of rules line ≡ Err (Line H1)
 unfolding outcome_of

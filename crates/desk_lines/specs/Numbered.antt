@@ -1,6 +1,6 @@
 -- Answers with the numbers of their lines.
 use Rattle.std.specs.Prelude.{◌≡◌, ℕ, suc, List, [], ◌∷◌, ◌++◌, Option, is_some, if◌then◌else◌, codes, decimal, option_map}
-use Rattle.riichi_hand.specs.declared.win.Rules.{Rules}
+use Rattle.riichi_hand.specs.Rules.{Rules}
 use Rattle.desk_lines.specs.Profile.{profile_of, rules_of, record_lines}
 use Rattle.desk_lines.specs.Records.{AnswerKind}
 use Rattle.desk_lines.specs.Telling.{answers_in}

@@ -1,11 +1,12 @@
 -- Answer lines that were not written yet.
 use Rattle.std.specs.Prelude.{◌+◌, ◌≤◌, length}
 use Rattle.desk_lines.specs.declared.outbox.Outbox.{Outbox}
+use Rattle.desk_lines.specs.declared.outbox.TheConstants.{ROOM, LONGEST_ANSWER, LONGEST_FRONT}
 
--- an object of 12,288 bytes and its line feed fit, and so does any other answer
+-- any answer fits: with its reasons, and with every reading of a hand
 abbrev pub HasRoom : Outbox → Type 0
-HasRoom outbox = length outbox.bytes.items + 12289 ≤ 65536
+HasRoom outbox = length outbox.bytes.items + LONGEST_ANSWER ≤ ROOM
 
--- the same behind the number of a line, which takes at most 29 bytes
+-- the same behind the number of a line
 abbrev pub HasRoomForLine : Outbox → Type 0
-HasRoomForLine outbox = length outbox.bytes.items + 12318 ≤ 65536
+HasRoomForLine outbox = length outbox.bytes.items + (LONGEST_ANSWER + LONGEST_FRONT) ≤ ROOM

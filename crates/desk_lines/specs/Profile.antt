@@ -2,14 +2,13 @@
 use Rattle.std.specs.Prelude.{ℕ, List, [], ◌∷◌, length, ◌||◌, Option, None, Some, is_some, unwrap_or, nat_lt, if◌then◌else◌, codes}
 use Rattle.std.specs.List.{list_any}
 use Rattle.std.specs.Str.{bytes_eq}
-use Rattle.riichi_hand.specs.declared.win.Rules.{Rules}
-use Rattle.riichi_hand.specs.declared.win.Rules.TheVariants.{One, Two}
+use Rattle.riichi_hand.specs.Rules.{Rules, first_profile, second_profile}
 use Rattle.riichi_hand.specs.Words.{words_of}
 use Rattle.riichi_hand.specs.Lines.{is_other_byte}
 
 -- the profile of a number
 abbrev pub profile_numbered : List ℕ → Option Rules
-profile_numbered number = if bytes_eq number (codes "1") then Some One else if bytes_eq number (codes "2") then Some Two else None
+profile_numbered number = if bytes_eq number (codes "1") then Some first_profile else if bytes_eq number (codes "2") then Some second_profile else None
 
 -- the profile that the words `rules 1` or `rules 2` name
 abbrev pub profile_of_words : List (List ℕ) → Option Rules

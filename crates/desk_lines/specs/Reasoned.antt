@@ -4,7 +4,7 @@ use Rattle.std.proofs.Common.{sym, subst, ap}
 use Rattle.riichi_hand.specs.declared.fault.LineFault.{LineFault}
 use Rattle.riichi_hand.specs.declared.job.Job.{Job}
 use Rattle.riichi_hand.specs.declared.job.Job.TheVariants.{Win, Waits, Shape}
-use Rattle.riichi_hand.specs.declared.win.Rules.{Rules}
+use Rattle.riichi_hand.specs.Rules.{Rules}
 use Rattle.riichi_hand.specs.declared.win.WinParts.{WinParts}
 use Rattle.riichi_hand.specs.Lines.{outcome_of}
 use Rattle.desk_reasons.specs.Reasons.{IsExplainedWin}

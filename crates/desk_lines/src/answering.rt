@@ -9,7 +9,7 @@ ghost use Rattle.desk_lines.specs.Outbox.{HasRoom};
 
 use super::line_kind::LineKind;
 use super::numbered::Numbers;
-use super::outbox::Outbox;
+use super::outbox::{MOST_TEXT_LINE, Outbox};
 use super::responder::Responder;
 use riichi_hand::{Job, Rules, ShapeRecord, fault_text, read_line};
 use riichi_score::{best, push_win};
@@ -79,7 +79,7 @@ fn put_job<S: RowSource>(job: &Job, outbox: &mut Outbox, source: &mut S)
 
 pub(crate) fn put_waits(kinds: KindSet, outbox: &mut Outbox)
     requires { HasRoom outbox.old }
-    ensures room { length outbox.new.bytes.items ≤ length outbox.old.bytes.items + 3073 }
+    ensures room { length outbox.new.bytes.items ≤ length outbox.old.bytes.items + MOST_TEXT_LINE }
     ensures told { outbox.new.bytes.items
         ≡ outbox.old.bytes.items
         ++ (spec_waits.waits_text kinds ++ 10 ∷ []) }
@@ -89,7 +89,7 @@ pub(crate) fn put_waits(kinds: KindSet, outbox: &mut Outbox)
 
 pub(crate) fn put_shape<S: RowSource>(tiles: &ShapeRecord, outbox: &mut Outbox, source: &mut S)
     requires { HasRoom outbox.old }
-    ensures room { length outbox.new.bytes.items ≤ length outbox.old.bytes.items + 3073 }
+    ensures room { length outbox.new.bytes.items ≤ length outbox.old.bytes.items + MOST_TEXT_LINE }
     ensures told { outbox.new.bytes.items
         ≡ outbox.old.bytes.items ++ (spec_shape.shape_text (shape_answer_of tiles.now) ++ 10 ∷ []) }
 {

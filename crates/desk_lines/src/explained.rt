@@ -1,13 +1,15 @@
 //! The answer to one line, and why it is so.
-ghost use Rattle.std.specs.Prelude.{◌≡◌, ℕ, ◌+◌, ◌≤◌, List, ◌∷◌, ◌++◌, [], length, option_map};
+ghost use Rattle.std.specs.Prelude.{◌≡◌, ℕ, ◌+◌, ◌≤◌, List, ◌∷◌, ◌++◌, [], All, length, option_map};
 ghost use Rattle.desk_core.specs.AnswerText.{answer_text};
 ghost use Rattle.desk_core.specs.Value.{value_of};
 ghost use Rattle.riichi_explain.specs.Explanation.{IsJobText, IsWinText, IsBestText, AreOthers, IsShapeText};
+ghost use Rattle.riichi_explain.specs.Others.{others_text};
 ghost use Rattle.riichi_explain.specs.Win.{explained_reading};
 ghost use Rattle.riichi_hand.specs.FaultTexts.{fault_text};
 ghost use Rattle.riichi_hand.specs.Places.{fault_from};
 ghost use Rattle.riichi_hints.specs.Hint.{IsRefusalText};
 ghost use Rattle.riichi_score.specs.Best.{best_of};
+ghost use Rattle.riichi_score.specs.Fu.{HasFourSets};
 ghost use Rattle.riichi_score.specs.Text as spec_win;
 ghost use Rattle.riichi_shape.specs.Answer.{shape_answer_of};
 ghost use Rattle.riichi_shape.specs.Text as spec_shape;
@@ -21,11 +23,11 @@ ghost use Rattle.desk_lines.specs.Records.{Puts};
 use super::answering::{put_shape, put_waits};
 use super::line_kind::LineKind;
 use super::numbered::Numbers;
-use super::outbox::Outbox;
+use super::outbox::{MOST_OTHERS, MOST_TEXT_LINE, Outbox, ROOM};
 use super::responder::Responder;
 use riichi_explain::{
-    Shown, explain_shape, explain_waits, explain_win, push_other_readings, push_shanten_line,
-    push_waits_line, push_win_lines,
+    REASONS_ROOM, RankedReading, Shown, explain_shape, explain_waits, explain_win,
+    push_other_reading, push_shanten_line, push_waits_line, push_win_lines, ranked_readings,
 };
 use riichi_hand::{
     HandRecord, Job, Refusal, Rules, ShapeRecord, WinRecord, fault_text, read_placed,
@@ -158,7 +160,8 @@ fn put_best<S: RowSource>(win: &WinRecord, outbox: &mut Outbox, source: &mut S) 
     ensures told { (why : List ℕ) × (best : IsBestText win.now why)
         × (outbox.new.bytes.items ≡ outbox.old.bytes.items ++ ((spec_win.win_text (best_of win.now) ++ 10 ∷ []) ++ why))
         × (result ≡ explained_reading best.explanation) }
-    ensures room { length outbox.new.bytes.items ≤ length outbox.old.bytes.items + 7681 }
+    ensures room { length outbox.new.bytes.items
+        ≤ length outbox.old.bytes.items + MOST_TEXT_LINE + REASONS_ROOM }
 {
     let explanation = explain_win(source, win);
     let best = explanation.reading();
@@ -173,13 +176,26 @@ fn put_best<S: RowSource>(win: &WinRecord, outbox: &mut Outbox, source: &mut S) 
 
 /// Puts the lines of the readings beside the one that scores into the outbox.
 fn put_others(best: &Option<Reading>, win: &WinRecord, outbox: &mut Outbox)
-    requires { length outbox.old.bytes.items + 4608 ≤ 65536 }
+    requires { length outbox.old.bytes.items + MOST_OTHERS ≤ ROOM }
     ensures { (others : List ℕ) × AreOthers best.now win.now others
         × (outbox.new.bytes.items ≡ outbox.old.bytes.items ++ others) }
 {
     if let Some(best) = best {
+        put_each(best, ranked_readings(win).as_slice(), win, outbox);
+    }
+}
+
+/// Puts the lines of each of these readings but the one that is shown into the outbox.
+fn put_each(shown: &Reading, ranked: &[RankedReading], win: &WinRecord, outbox: &mut Outbox)
+    requires few { length ranked.now ≤ 8 }
+    requires sets { All (λ one. HasFourSets one.reading win.now) ranked.now }
+    requires room { length outbox.old.bytes.items + MOST_OTHERS ≤ ROOM }
+    ensures { outbox.new.bytes.items
+        ≡ outbox.old.bytes.items ++ others_text shown.now ranked.now win.now }
+{
+    for one in ranked {
         outbox.why.clear();
-        push_other_readings(&mut outbox.why, best, win);
+        push_other_reading(&mut outbox.why, shown, one, win);
         outbox.put_why();
     }
 }

@@ -1,6 +1,6 @@
 //! Laws over the kinds of answers.
 ghost use Rattle.std.specs.Prelude.{◌≡◌, ◌++◌, ℕ, List, Option};
-ghost use Rattle.riichi_hand.specs.declared.win.Rules.{Rules};
+ghost use Rattle.riichi_hand.specs.Rules.{Rules};
 ghost use Rattle.desk_lines.specs.Filling.{IsCutBehindLine, SetsNone, replies_by};
 ghost use Rattle.desk_lines.specs.Explained.{IsExplained, without_indented};
 ghost use Rattle.desk_lines.specs.LineAnswer.{IsBy};

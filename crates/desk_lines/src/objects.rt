@@ -3,7 +3,6 @@ ghost use Rattle.std.specs.Prelude.{◌≡◌, option_map};
 ghost use Rattle.desk_core.specs.Value.{value_of};
 ghost use Rattle.desk_json.specs.Text as spec;
 ghost use Rattle.riichi_hand.specs.Places.{fault_from};
-ghost use Rattle.riichi_hand.specs.Rules.{house_of};
 
 use super::line_kind::LineKind;
 use super::numbered::Numbers;
@@ -11,7 +10,7 @@ use super::outbox::Outbox;
 use super::responder::Responder;
 use desk_core::judge_with;
 use desk_json::{push_answer, push_refusal};
-use riichi_hand::{Job, Refusal, RuleSet, Rules, read_placed};
+use riichi_hand::{Job, Refusal, Rules, read_placed};
 use riichi_shape::RowSource;
 
 /// The answers as JSON: an object on a line for each record.
@@ -94,15 +93,11 @@ impl Numbers for Members {
 /// Makes the object of a job under these rules.
 fn make_object<S: RowSource>(rules: Rules, job: &Job, outbox: &mut Outbox, source: &mut S)
     ensures object { outbox.new.object.bytes
-        ≡ spec.answer_json (house_of rules) (value_of job.now) }
+        ≡ spec.answer_json rules (value_of job.now) }
     ensures same { outbox.new.bytes ≡ outbox.old.bytes }
 {
     outbox.object.clear();
-    push_answer(
-        &mut outbox.object,
-        RuleSet::of(rules),
-        &judge_with(source, job),
-    );
+    push_answer(&mut outbox.object, rules, &judge_with(source, job));
 }
 
 /// Makes the object of a refusal.

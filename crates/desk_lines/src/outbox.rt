@@ -3,28 +3,37 @@ ghost use Rattle.std.specs.Prelude.{◌≡◌, ◌+◌, ◌<◌, ◌≤◌, [], 
 ghost use Rattle.desk_lines.specs.Streams.{Writes};
 
 use super::fault::DeskFault;
-use arrayvec::{ArrayString, ArrayVec};
+use arrayvec::ArrayVec;
 use desk_io::Sink;
 use desk_json::JsonText;
-use riichi_text::push_number;
+use riichi_explain::{MOST_OTHER_READING, MOST_READINGS, REASONS_ROOM, ReasonsText};
+use riichi_text::{ANSWER_ROOM, AnswerText, MOST_U64, push_number};
 
 /// Room for many answer lines, so that they are written in large pieces.
-const ROOM: usize = 65_536;
+pub(crate) const ROOM: usize = 65_536;
 
-/// The longest answer: an object of 12,288 bytes and a line feed. A text of 3,072 bytes and a line feed, and twice the 4,608
-/// bytes that may explain it, are as many.
-const LONGEST_ANSWER: usize = 12_289;
+/// The bytes of an answer's line, as text.
+pub(crate) const MOST_TEXT_LINE: usize = ANSWER_ROOM + "\n".len();
 
-/// The most that stands before an answer: its line's number, of twenty digits, and nine bytes beside it.
-const LONGEST_FRONT: usize = 29;
+/// The bytes of the lines of all readings but the one that scores: of each, and before the last a room that it is made in.
+pub(crate) const MOST_OTHERS: usize = (MOST_READINGS - 1) * MOST_OTHER_READING + REASONS_ROOM;
+
+/// The bytes of an answer's line, and of what explains it: of the longest of a win, of its reasons and of its other readings.
+pub(crate) const LONGEST_ANSWER: usize = MOST_TEXT_LINE + REASONS_ROOM + MOST_OTHERS;
+
+/// The bytes beside the number of a line.
+const MOST_BESIDE_NUMBER: usize = "{\"line\":,".len();
+
+/// The most that stands before an answer: its line's number, and what is beside it.
+const LONGEST_FRONT: usize = MOST_U64 + MOST_BESIDE_NUMBER;
 
 /// Answer lines that were not written yet, and room for the text of the next one and for what explains it: to make it
 /// anew for each line takes as long as to fill it.
 #[derive(Drop)]
 pub struct Outbox {
     bytes: ArrayVec<u8, ROOM>,
-    pub(crate) text: ArrayString<3072>,
-    pub(crate) why: ArrayString<4608>,
+    pub(crate) text: AnswerText,
+    pub(crate) why: ReasonsText,
     pub(crate) object: JsonText,
 }
 
@@ -36,8 +45,8 @@ impl Outbox {
     {
         Outbox {
             bytes: ArrayVec::new(),
-            text: ArrayString::new(),
-            why: ArrayString::new(),
+            text: AnswerText::new(),
+            why: ReasonsText::new(),
             object: JsonText::new(),
         }
     }
@@ -78,7 +87,7 @@ impl Outbox {
     /// Adds a number between two texts, in front of an answer.
     pub(crate) fn put_number(&mut self, before: &str, number: u64, behind: &str)
         requires room { HasRoomForLine self.old }
-        requires short { length before.now + length behind.now ≤ 9 }
+        requires short { length before.now + length behind.now ≤ MOST_BESIDE_NUMBER }
         ensures told { self.new.bytes.items
             ≡ self.old.bytes.items ++ (before.now ++ (decimal number ++ behind.now)) }
         ensures room { HasRoom self.new }
@@ -103,7 +112,7 @@ impl Outbox {
         requires { HasRoom self.old }
         ensures told { self.new.bytes.items
             ≡ self.old.bytes.items ++ (self.old.text.bytes ++ 10 ∷ []) }
-        ensures room { length self.new.bytes.items ≤ length self.old.bytes.items + 3073 }
+        ensures room { length self.new.bytes.items ≤ length self.old.bytes.items + MOST_TEXT_LINE }
     {
         push_line(&mut self.bytes, self.text.as_str().as_bytes());
     }
@@ -129,7 +138,7 @@ impl Outbox {
 
     /// Adds the lines that stand in its room, each with its line feed.
     pub(crate) fn put_lines(&mut self)
-        requires { length self.old.bytes.items + 3072 ≤ ROOM }
+        requires { length self.old.bytes.items + ANSWER_ROOM ≤ ROOM }
         ensures { self.new.bytes.items ≡ self.old.bytes.items ++ self.old.text.bytes }
     {
         self.bytes
@@ -139,9 +148,9 @@ impl Outbox {
 
     /// Adds the lines that stand in the room of explanations, each with its line feed.
     pub(crate) fn put_why(&mut self)
-        requires { length self.old.bytes.items + 4608 ≤ ROOM }
+        requires { length self.old.bytes.items + REASONS_ROOM ≤ ROOM }
         ensures told { self.new.bytes.items ≡ self.old.bytes.items ++ self.old.why.bytes }
-        ensures room { length self.new.bytes.items ≤ length self.old.bytes.items + 4608 }
+        ensures room { length self.new.bytes.items ≤ length self.old.bytes.items + REASONS_ROOM }
     {
         self.bytes
             .try_extend_from_slice(self.why.as_str().as_bytes())

@@ -14,11 +14,15 @@ pub(crate) fn first_rules(given: Rules, stream: &mut Option<Rules>, line: &[u8])
     ensures stream { stream.new ≡ Some (rules_by given None line.now) }
     ensures record { result ≡ record_rules given None line.now }
 {
-    let set = profile_of(line);
-    *stream = Some(set.unwrap_or(given));
-    match set {
-        Some(_) => None,
-        None => Some(given),
+    match profile_of(line) {
+        Some(rules) => {
+            *stream = Some(rules);
+            None
+        }
+        None => {
+            *stream = Some(given);
+            Some(given)
+        }
     }
 }
 

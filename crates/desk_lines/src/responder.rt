@@ -1,6 +1,6 @@
 //! What answers one record line.
 ghost use Rattle.std.specs.Prelude.{◌≡◌, ℕ, List, Option};
-ghost use Rattle.riichi_hand.specs.declared.win.Rules.{Rules};
+ghost use Rattle.riichi_hand.specs.Rules.{Rules};
 ghost use Rattle.desk_lines.specs.LineAnswer.{line_kind};
 ghost use Rattle.desk_lines.specs.LongLines.{AreAlike};
 ghost use Rattle.desk_lines.specs.Outbox.{HasRoom};

@@ -7,7 +7,7 @@ ghost use Rattle.desk_lines.specs.Telling.{with_line_feed};
 use super::line_kind::LineKind;
 use super::outbox::Outbox;
 use super::teller::Teller;
-use desk_script::Script;
+use desk_script::{LONGEST, Script};
 use riichi_shape::RowSource;
 use std::alloc::AllocError;
 
@@ -41,7 +41,7 @@ impl Teller for Script {
 /// Puts an answer into the outbox.
 fn put_text(text: &[u8], outbox: &mut Outbox) -> LineKind
     requires room { HasRoom outbox.old }
-    requires short { length text.now ≤ 3096 }
+    requires short { length text.now ≤ LONGEST }
     ensures kind { result ≡ text_kind text.now }
     ensures told { outbox.new.bytes.items
         ≡ outbox.old.bytes.items ++ with_line_feed (Some text.now) }

@@ -1,5 +1,5 @@
 //! Tests of `desk_lines`, by what it exports: the answers to lines, to texts and to scripts, and its law; of `desk_score`; and
-//! that `desk_cli` reads the rules that these answers name.
+//! that the rules which these answers name are read back.
 //!
 //! They stand apart from the libraries, since a check of a crate with its tests proves the crate once more.
 #![tactic(auto)]

@@ -1,7 +1,6 @@
 //! The words of rules, as answers name them and `--rules` reads them.
 use crate::facts::{holds_in, same_in};
-use desk_cli::rules_named;
-use riichi_hand::{House, Rules, Switch, rules_words};
+use riichi_hand::{Rules, Switch, read_rules, rules_words};
 use std::test::Fail;
 
 /// What a user types, and how it is named.
@@ -25,7 +24,7 @@ const TYPED: [(&str, &str); 10] = [
 ];
 
 fn rules_of(words: &str) -> Result<Rules, Fail> {
-    match rules_named(words) {
+    match read_rules(words.as_bytes()) {
         Ok(rules) => Ok(rules),
         Err(_) => Err(Fail::from("words that name no rules")),
     }
@@ -41,22 +40,22 @@ fn words_of_rules(rt: HostRuntime) -> Result<(), Fail> {
 }
 
 /// The rules that are on where the bits of a number are.
-fn house_of(number: u32) -> House {
-    let mut house = Rules::One.house();
+fn numbered(number: u32) -> Rules {
+    let mut rules = Rules::One;
     let mut rest = number;
     for switch in Switch::ALL {
-        house = house.with(switch, rest % 2 == 1);
+        rules = rules.with(switch, rest % 2 == 1);
         rest /= 2;
     }
-    house
+    rules
 }
 
 #[test]
 fn words_of_every_choice_of_rules_are_read_back(rt: HostRuntime) -> Result<(), Fail> {
     for number in 0..4096 {
-        let house = house_of(number);
-        let words = rules_words(Rules::House(house));
-        holds_in(&rt, &number, rules_of(words.as_str())?.house() == house);
+        let rules = numbered(number);
+        let words = rules_words(rules);
+        holds_in(&rt, &number, rules_of(words.as_str())? == rules);
     }
     Ok(())
 }

@@ -8,7 +8,7 @@ use Rattle.desk_json.specs.Parts.{comma_if}
 use Rattle.desk_json.specs.Text.{json_text}
 use Rattle.desk_json.specs.Trees.{Named}
 use Rattle.desk_json.proofs.Written.{written, members_written, text_written, member_ends}
-use Rattle.riichi_hand.specs.declared.house.House.{House}
+use Rattle.riichi_hand.specs.Rules.{Rules}
 use Rattle.riichi_score.specs.declared.answer.WinAnswer.{WinAnswer}
 use Rattle.riichi_score.specs.declared.answer.WinAnswer.TheVariants.{Won, NoYaku, NoWin}
 use Rattle.desk_core.specs.declared.answer.Answer.TheVariants as answer
@@ -58,7 +58,7 @@ one_more now before name value members named e =
     ∙ member_ends (123 ∷ []) (quoted name ++ 58 ∷ []) (written value) (open_members true members) (member_text named ++ codes "}")))
 
 -- the object of a win
-pub win_more : (before now : List ℕ) (rules : House) (win : WinAnswer) (named : Named) → now ++ codes "}" ≡ before ++ answer_json rules (answer.Win win)
+pub win_more : (before now : List ℕ) (rules : Rules) (win : WinAnswer) (named : Named) → now ++ codes "}" ≡ before ++ answer_json rules (answer.Win win)
     → now ++ (member_text named ++ codes "}") ≡ before ++ json_text (with_member (win_tree rules win) named)
 unfolding answer_tree win_tree score_tree
 win_more before now rules (Won score) named e = one_more now before _ _ _ named e

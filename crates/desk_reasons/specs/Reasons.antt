@@ -2,7 +2,7 @@
 use Rattle.std.specs.Prelude.{◌≡◌, ℕ, List, codes}
 use Rattle.riichi_hand.specs.declared.win.WinParts.{WinParts}
 use Rattle.riichi_score.specs.Best.{best_of}
-use Rattle.riichi_explain.specs.declared.ranked.Ranking.{Ranking}
+use Rattle.riichi_explain.specs.declared.ranked.RankedReading.{RankedReading}
 use Rattle.riichi_explain.specs.declared.win.WinExplanation.{WinExplanation}
 use Rattle.riichi_explain.specs.Ranked.{AreRanked}
 use Rattle.riichi_explain.specs.Win.{Explains, explained_answer}
@@ -16,6 +16,6 @@ pub record IsExplainedWin (win : WinParts) (object : List ℕ) : Type 0 where
   pub explanation : WinExplanation
   pub answer : explained_answer explanation ≡ best_of win
   pub explains : Explains win explanation
-  pub ranking : Ranking
-  pub are_ranked : AreRanked win ranking
-  pub object_is : object ≡ json_text (with_member (win_tree win.rules (best_of win)) (codes "why", why_tree explanation ranking.ranked.items))
+  pub ranked : List RankedReading
+  pub are_ranked : AreRanked win ranked
+  pub object_is : object ≡ json_text (with_member (win_tree win.rules (best_of win)) (codes "why", why_tree explanation ranked))

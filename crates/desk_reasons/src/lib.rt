@@ -20,4 +20,4 @@ mod rows;
 mod values;
 mod why;
 
-pub use why::push_explained_win;
+pub use why::{MOST_EXPLAINED_WIN, push_explained_win};

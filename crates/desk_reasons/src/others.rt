@@ -5,20 +5,28 @@ ghost use Rattle.desk_reasons.specs.Parts as spec;
 ghost use Rattle.desk_reasons.specs.Trees.{others_of};
 
 use crate::counts::{push_count, push_small};
-use crate::reading::push_reading;
+use crate::reading::{MOST_READING, push_reading};
 use crate::values::Value;
 use arrayvec::ArrayVec;
-use desk_json::JsonText;
-use riichi_explain::RankedReading;
+use desk_json::{JSON_ROOM, JsonText};
+use riichi_explain::{MOST_READINGS, RankedReading, Ranking};
 use riichi_score::Score;
 use riichi_split::Reading;
+use riichi_text::{MOST_U8, MOST_U32};
 
-/// Readings, each with its score where it has a yaku.
-pub(crate) type OtherReadings = ArrayVec<RankedReading, 12>;
+/// The bytes of the longest object of a reading beside the one that scores.
+pub(crate) const MOST_OTHER: usize = "{\"reading\":".len() + MOST_READING + MOST_WORTH + "}".len();
+
+const MOST_WORTH: usize = ",\"han\":".len()
+    + MOST_U8
+    + ",\"fu\":".len()
+    + MOST_U8
+    + ",\"gain\":".len()
+    + MOST_U32;
 
 /// The readings but the one that is shown.
-pub(crate) fn others_of(shown: &Reading, ranked: &[RankedReading]) -> OtherReadings
-    requires { length ranked.now ≤ 12 }
+pub(crate) fn others_of(shown: &Reading, ranked: &[RankedReading]) -> Ranking
+    requires { length ranked.now ≤ MOST_READINGS }
     ensures { result.items ≡ others_of shown.now ranked.now }
 {
     let mut others = ArrayVec::new();
@@ -31,11 +39,12 @@ pub(crate) fn others_of(shown: &Reading, ranked: &[RankedReading]) -> OtherReadi
 }
 
 impl Value for RankedReading {
+    ghost use Rattle.desk_reasons.specs.declared.others.TheConstants.{MOST_OTHER};
     ghost use Rattle.desk_reasons.specs.Parts.{other_reading_json};
 
     ghost value_text = { other_reading_json };
 
-    ghost most = { 150 };
+    ghost most = { MOST_OTHER };
 
     #[tactic(auto, unfolding(crate::specs::Parts::other_reading_json))]
     fn push(&self, text: &mut JsonText) {
@@ -49,9 +58,9 @@ impl Value for RankedReading {
 /// What a reading is worth that has a yaku.
 #[tactic(auto, unfolding(crate::specs::Parts::worth_if_json))]
 fn push_worth_if(text: &mut JsonText, score: &Option<Score>)
-    requires { array_string_len text.old + 37 ≤ 12288 }
+    requires { array_string_len text.old + MOST_WORTH ≤ JSON_ROOM }
     ensures bytes { text.new.bytes ≡ text.old.bytes ++ spec.worth_if_json score.now }
-    ensures len { array_string_len text.new ≤ array_string_len text.old + 37 }
+    ensures len { array_string_len text.new ≤ array_string_len text.old + MOST_WORTH }
 {
     if let Some(score) = score {
         push_small(text, ",\"han\":", score.han);

@@ -4,7 +4,7 @@ ghost use Rattle.std.specs.List.{flat_map};
 ghost use Rattle.arrayvec.specs.ArrayString.{array_string_len};
 ghost use Rattle.desk_reasons.specs.Parts as spec;
 
-use desk_json::JsonText;
+use desk_json::{JSON_ROOM, JsonText};
 
 /// What is written as a value of JSON, one of a list.
 pub(crate) trait Value {
@@ -16,7 +16,7 @@ pub(crate) trait Value {
 
     /// Writes it behind a text.
     fn push(&self, text: &mut JsonText)
-        requires { array_string_len text.old + most ≤ 12288 }
+        requires { array_string_len text.old + most ≤ JSON_ROOM }
         ensures bytes { text.new.bytes ≡ text.old.bytes ++ value_text self.now }
         ensures len { array_string_len text.new ≤ array_string_len text.old + most };
 }
@@ -25,7 +25,7 @@ pub(crate) trait Value {
 #[tactic(auto, unfolding(crate::specs::Parts::rows_json))]
 pub(crate) fn push_rows<T: Value>(text: &mut JsonText, before: &str, rows: &[T])
     requires { array_string_len text.old
-        + length before.now + length rows.now * (1 + T.most) ≤ 12288 }
+        + length before.now + length rows.now * (1 + T.most) ≤ JSON_ROOM }
     ensures bytes { text.new.bytes
         ≡ text.old.bytes ++ spec.rows_json before.now (map T.value_text rows.now) }
     ensures len { array_string_len text.new
@@ -40,7 +40,7 @@ pub(crate) fn push_rows<T: Value>(text: &mut JsonText, before: &str, rows: &[T])
 
 /// Writes these values, each behind a comma.
 fn push_more<T: Value>(text: &mut JsonText, rows: &[T])
-    requires { array_string_len text.old + length rows.now * (1 + T.most) ≤ 12288 }
+    requires { array_string_len text.old + length rows.now * (1 + T.most) ≤ JSON_ROOM }
     ensures bytes { text.new.bytes
         ≡ text.old.bytes ++ flat_map (λ next. codes "," ++ T.value_text next) rows.now }
     ensures len { array_string_len text.new

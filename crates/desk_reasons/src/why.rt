@@ -7,37 +7,65 @@ ghost use Rattle.desk_reasons.specs.Reasons.{IsExplainedWin};
 ghost use Rattle.desk_reasons.specs.Trees.{why_tree};
 
 use crate::missed::push_missed;
-use crate::others::others_of;
-use crate::reading::push_reading;
+use crate::others::{MOST_OTHER, others_of};
+use crate::reading::{MOST_READING, push_reading};
+use crate::rows::{MOST_DORA_ROW, MOST_FU_ROW, MOST_HAN_ROW, MOST_PAY_ROW};
 use crate::values::push_rows;
-use desk_json::{JsonText, push_open_win};
-use riichi_explain::{RankedReading, WinExplanation, WonHand, explain_win, ranked_readings};
+use desk_json::{JSON_ROOM, JsonText, MOST_OPEN_WIN, push_open_win};
+use riichi_explain::{
+    MOST_DORA_ROWS, MOST_FU_ROWS, MOST_HAN_ROWS, MOST_PAY_ROWS, MOST_READINGS, RankedReading,
+    WinExplanation, WonHand, explain_win, ranked_readings,
+};
 use riichi_hand::WinRecord;
 use riichi_shape::RowSource;
+
+/// The bytes of the longest object of a win with its reasons.
+pub const MOST_EXPLAINED_WIN: usize = MOST_OPEN_WIN + ",\"why\":".len() + MOST_WHY + "}".len();
+
+const MOST_WHY: usize = MOST_EARNED + MOST_PAID;
+
+const MOST_EARNED: usize = "{\"reading\":".len()
+    + MOST_READING
+    + ",\"han\":[".len()
+    + MOST_HAN_ROWS * (",".len() + MOST_HAN_ROW)
+    + "],\"dora\":[".len()
+    + MOST_DORA_ROWS * (",".len() + MOST_DORA_ROW);
+
+const MOST_PAID: usize = "],\"fu\":[".len()
+    + MOST_FU_ROWS * (",".len() + MOST_FU_ROW)
+    + "],\"payments\":[".len()
+    + MOST_PAY_ROWS * (",".len() + MOST_PAY_ROW)
+    + "],\"others\":[".len()
+    + MOST_READINGS * (",".len() + MOST_OTHER)
+    + "]}".len();
+
+const MOST_UNSCORED: usize = "{\"others\":[".len()
+    + MOST_READINGS * (",".len() + MOST_OTHER)
+    + "]}".len();
 
 /// Writes the object that answers a win behind a text, with the member `why` at its end, without a line's end. Where the hand is
 /// no win, the rows of a source say how far it is from each form.
 pub fn push_explained_win<R: RowSource>(text: &mut JsonText, win: &WinRecord, source: &mut R)
-    requires { array_string_len text.old + 11951 ≤ 12288 }
+    requires { array_string_len text.old + MOST_EXPLAINED_WIN ≤ JSON_ROOM }
     ensures { (object : List ℕ) × IsExplainedWin win.now object
         × (text.new.bytes ≡ text.old.bytes ++ object) }
 {
     let explanation = explain_win(source, win);
-    let ranking = ranked_readings(win);
+    let ranked = ranked_readings(win);
     push_open_win(text, win.rules(), &explanation.answer());
     text.push_str(",\"why\":");
-    push_why(text, &explanation, ranking.ranked.as_slice());
+    push_why(text, &explanation, ranked.as_slice());
     text.push_str("}");
 }
 
 /// Why a win is answered so.
 #[tactic(auto, using(crate::proofs::Written::push_why_facts), unfolding(crate::specs::Trees::why_tree))]
 fn push_why(text: &mut JsonText, explanation: &WinExplanation, ranked: &[RankedReading])
-    requires few { length ranked.now ≤ 12 }
-    requires room { array_string_len text.old + 7800 ≤ 12288 }
+    requires few { length ranked.now ≤ MOST_READINGS }
+    requires room { array_string_len text.old + MOST_WHY ≤ JSON_ROOM }
     ensures bytes { text.new.bytes
         ≡ text.old.bytes ++ json_text (why_tree explanation.now ranked.now) }
-    ensures len { array_string_len text.new ≤ array_string_len text.old + 7800 }
+    ensures len { array_string_len text.new ≤ array_string_len text.old + MOST_WHY }
 {
     match explanation {
         WinExplanation::Won(hand) => {
@@ -51,10 +79,10 @@ fn push_why(text: &mut JsonText, explanation: &WinExplanation, ranked: &[RankedR
 /// The reading that scores, its rows, and the other readings.
 #[tactic(auto, unfolding(crate::specs::Parts::won_json))]
 fn push_won(text: &mut JsonText, hand: &WonHand, others: &[RankedReading])
-    requires few { length others.now ≤ 12 }
-    requires room { array_string_len text.old + 7800 ≤ 12288 }
+    requires few { length others.now ≤ MOST_READINGS }
+    requires room { array_string_len text.old + MOST_WHY ≤ JSON_ROOM }
     ensures bytes { text.new.bytes ≡ text.old.bytes ++ spec.won_json hand.now others.now }
-    ensures len { array_string_len text.new ≤ array_string_len text.old + 7800 }
+    ensures len { array_string_len text.new ≤ array_string_len text.old + MOST_WHY }
 {
     push_earned(text, hand);
     push_paid(text, hand, others);
@@ -62,9 +90,9 @@ fn push_won(text: &mut JsonText, hand: &WonHand, others: &[RankedReading])
 
 #[tactic(auto, unfolding(crate::specs::Parts::earned_json))]
 fn push_earned(text: &mut JsonText, hand: &WonHand)
-    requires { array_string_len text.old + 3740 ≤ 12288 }
+    requires { array_string_len text.old + MOST_EARNED ≤ JSON_ROOM }
     ensures bytes { text.new.bytes ≡ text.old.bytes ++ spec.earned_json hand.now }
-    ensures len { array_string_len text.new ≤ array_string_len text.old + 3740 }
+    ensures len { array_string_len text.new ≤ array_string_len text.old + MOST_EARNED }
 {
     text.push_str("{\"reading\":");
     push_reading(text, &hand.reading);
@@ -74,10 +102,10 @@ fn push_earned(text: &mut JsonText, hand: &WonHand)
 
 #[tactic(auto, unfolding(crate::specs::Parts::paid_json))]
 fn push_paid(text: &mut JsonText, hand: &WonHand, others: &[RankedReading])
-    requires few { length others.now ≤ 12 }
-    requires room { array_string_len text.old + 4060 ≤ 12288 }
+    requires few { length others.now ≤ MOST_READINGS }
+    requires room { array_string_len text.old + MOST_PAID ≤ JSON_ROOM }
     ensures bytes { text.new.bytes ≡ text.old.bytes ++ spec.paid_json hand.now others.now }
-    ensures len { array_string_len text.new ≤ array_string_len text.old + 4060 }
+    ensures len { array_string_len text.new ≤ array_string_len text.old + MOST_PAID }
 {
     push_rows(text, "],\"fu\":[", hand.fu.as_slice());
     push_rows(text, "],\"payments\":[", hand.payers.as_slice());
@@ -88,10 +116,10 @@ fn push_paid(text: &mut JsonText, hand: &WonHand, others: &[RankedReading])
 /// The readings of a hand without yaku.
 #[tactic(auto, unfolding(crate::specs::Parts::readings_json))]
 fn push_readings(text: &mut JsonText, ranked: &[RankedReading])
-    requires few { length ranked.now ≤ 12 }
-    requires room { array_string_len text.old + 1830 ≤ 12288 }
+    requires few { length ranked.now ≤ MOST_READINGS }
+    requires room { array_string_len text.old + MOST_UNSCORED ≤ JSON_ROOM }
     ensures bytes { text.new.bytes ≡ text.old.bytes ++ spec.readings_json ranked.now }
-    ensures len { array_string_len text.new ≤ array_string_len text.old + 1830 }
+    ensures len { array_string_len text.new ≤ array_string_len text.old + MOST_UNSCORED }
 {
     push_rows(text, "{\"others\":[", ranked);
     text.push_str("]}");

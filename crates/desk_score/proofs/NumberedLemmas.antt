@@ -1,6 +1,6 @@
 -- The answers of a text, behind the numbers of their lines.
 use Rattle.std.proofs.Common.{◌≡◌, ℕ, suc, List, [], ◌∷◌, ◌++◌, true, Option, ◌∙◌, ap}
-use Rattle.riichi_hand.specs.declared.win.Rules.{Rules}
+use Rattle.riichi_hand.specs.Rules.{Rules}
 use Rattle.desk_lines.specs.LineAnswer.{IsBy, answer_of}
 use Rattle.desk_lines.specs.Numbered.{AreNumbered, NumberRecords, first_number, with_number, words_front}
 use Rattle.desk_lines.specs.Profile.{rules_of, record_lines}

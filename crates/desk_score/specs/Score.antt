@@ -2,7 +2,7 @@
 use Rattle.std.specs.Prelude.{◌≡◌, ℕ, ◌≤◌, List, [], ◌∷◌, ◌++◌, All, map, get_or, Option, is_some, option_map}
 use Rattle.std.specs.List.{sum_by}
 use Rattle.desk_io.specs.declared.source.Source.{Ghosts as OfSource}
-use Rattle.riichi_hand.specs.declared.win.Rules.{Rules}
+use Rattle.riichi_hand.specs.Rules.{Rules}
 use Rattle.desk_core.specs.declared.lane.TheConstants.{LIMIT}
 use Rattle.desk_lines.specs.declared.report.DeskReport.{DeskReport}
 use Rattle.desk_lines.specs.Lines.{lines}

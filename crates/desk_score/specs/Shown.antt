@@ -1,6 +1,6 @@
 -- The plain answers of a text, behind the numbers of their lines or without these.
 use Rattle.std.specs.Prelude.{ℕ, suc, List, [], ◌∷◌, ◌++◌, Bool, if◌then◌else◌}
-use Rattle.riichi_hand.specs.declared.win.Rules.{Rules}
+use Rattle.riichi_hand.specs.Rules.{Rules}
 use Rattle.desk_lines.specs.LineAnswer.{answer_of}
 use Rattle.desk_lines.specs.LineAnswers.{answers_to}
 use Rattle.desk_lines.specs.Numbered.{first_number, with_number, words_front}

@@ -1,6 +1,6 @@
 -- What was read of the tables, and answered.
 use Rattle.std.specs.Prelude.{◌≡◌, ◌↔◌, ℕ, List, length, Option, IsTrue}
-use Rattle.riichi_hand.specs.declared.win.Rules.{Rules}
+use Rattle.riichi_hand.specs.Rules.{Rules}
 use Rattle.desk_score.specs.declared.tables.Tables.{Tables}
 use Rattle.desk_score.specs.Score.{score_by, score_report, AreWithinLimit}
 

@@ -1,6 +1,6 @@
 //! The answers to the texts of the tables, in memory.
 ghost use Rattle.std.specs.Prelude.{◌≡◌, ◌↔◌, ◌≤◌, ◌<◌, ℕ, List, [], ◌∷◌, ◌++◌, ◌+◌, length, IsTrue, OnOk, IfOk, IfErr, IsErrOf, Option, map, option_map};
-ghost use Rattle.riichi_hand.specs.declared.win.Rules.{Rules};
+ghost use Rattle.riichi_hand.specs.Rules.{Rules};
 ghost use Rattle.desk_lines.specs.Lines.{lines};
 ghost use Rattle.desk_lines.specs.LineAnswers.{report_on};
 ghost use Rattle.desk_lines.specs.Streams.{FailsOrGoesOn, GivesAll, IsReadWithin};

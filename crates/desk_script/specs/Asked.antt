@@ -2,7 +2,7 @@
 use Rattle.std.specs.Prelude.{ℕ, List, [], ◌∷◌, ◌++◌, length, position, Option, None, Some, Result, Ok, Err, nat_lt, if◌then◌else◌}
 use Rattle.std.specs.List.{filter_map}
 use Rattle.std.specs.Str.{bytes_eq}
-use Rattle.riichi_hand.specs.declared.win.Rules.TheVariants.{One}
+use Rattle.riichi_hand.specs.Rules.{first_profile}
 use Rattle.riichi_hand.specs.declared.fault.LineFault.{LineFault}
 use Rattle.riichi_hand.specs.declared.job.Job.{Job}
 use Rattle.riichi_hand.specs.Lines.{outcome_of}
@@ -35,8 +35,8 @@ piece_of table seq job = record { ticket = record { table = table; seq = seq }; 
 -- what a command asks of a table that is open
 abbrev pub asked_at : ℕ → Action → List ℕ → LineRequest
 asked_at table Open job_line = refused OpenAlready
-asked_at table Submit job_line = with_record (outcome_of One job_line) (λ job. event.Submit table job)
-asked_at table (Arrive seq) job_line = with_record (outcome_of One job_line) (λ job. event.Arrive (piece_of table seq job))
+asked_at table Submit job_line = with_record (outcome_of first_profile job_line) (λ job. event.Submit table job)
+asked_at table (Arrive seq) job_line = with_record (outcome_of first_profile job_line) (λ job. event.Arrive (piece_of table seq job))
 asked_at table Close job_line = ask.Event (event.Close table)
 asked_at table Take job_line = ask.Event (event.Take table)
 asked_at table (Withdraw seq) job_line = ask.Event (event.Withdraw (record { table = table; seq = seq }))

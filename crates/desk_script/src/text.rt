@@ -8,10 +8,10 @@ use crate::told::Told;
 use arrayvec::ArrayString;
 use desk_core::{Arrived, Reply, SubmitFault, Taken, answer_text};
 use riichi_hand::fault_text;
-use riichi_text::push_number;
+use riichi_text::{ANSWER_ROOM, MOST_U32, push_number};
 
-/// The longest text: an answer of 3,072 bytes behind a word and a ticket's number.
-pub const LONGEST: usize = 3_096;
+/// The bytes of the longest text: an answer behind a word and a ticket's number.
+pub const LONGEST: usize = "answer ".len() + MOST_U32 + " ".len() + ANSWER_ROOM;
 
 /// The line that answers a line of a script, without the line's end; none where it has no answer.
 #[tactic(auto, unfolding(crate::specs::Texts::told_text))]

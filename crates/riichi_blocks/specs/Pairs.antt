@@ -5,10 +5,12 @@ use Rattle.riichi_hand.specs.Win.{wind_kind}
 use Rattle.riichi_blocks.specs.declared.hand_block.HandBlock.{HandBlock}
 use Rattle.riichi_blocks.specs.declared.hand_block.HandBlock.TheVariants.{Pair}
 use Rattle.riichi_blocks.specs.Kinds.{is_dragon}
+use Rattle.riichi_hand.specs.Rules.{is_on}
+use Rattle.riichi_hand.specs.declared.switch.Switch.TheVariants.{DoubleWindPair}
 
 -- A pair of the prevalent wind has fu; one that has fu as a pair of the seat wind has them too where the rules say so.
 abbrev pub has_prevalent_fu : WinParts → ℕ → Bool
-has_prevalent_fu parts kind = (kind == wind_kind parts.round) && (not (kind == wind_kind parts.seat) || parts.rules.double_wind_pair)
+has_prevalent_fu parts kind = (kind == wind_kind parts.round) && (not (kind == wind_kind parts.seat) || is_on DoubleWindPair parts.rules)
 
 -- The fu of a pair of this kind: of dragons 2, of the seat wind 2, of the prevalent wind 2.
 abbrev pub pair_fu : WinParts → ℕ → ℕ

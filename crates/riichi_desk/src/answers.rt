@@ -1,8 +1,18 @@
 //! Carries out what the command line asks for.
+ghost use Rattle.std.specs.Prelude.{◌≡◌, ◌⊎◌, ℕ, List, false, nat_lt, IfOk, OnOk, OnErr};
+ghost use Rattle.desk_lines.specs.Lines.{lines};
+ghost use Rattle.desk_lines.specs.Scripts.{script_report};
+ghost use Rattle.desk_lines.specs.Streams.{GivesAll, WritesAll};
+ghost use Rattle.desk_lines.specs.Telling.{text_of};
+ghost use Rattle.desk_script.specs.OnlyReplay.{IsOnlyReplay};
+ghost use Rattle.desk_script.specs.Replay.{Replays};
+ghost use Rattle.riichi_desk.specs.Failures.{EndsWith, IsReportedBy, IsUnwritten};
+ghost use Rattle.riichi_desk.specs.Outcomes.{IsCarriedOut, TellsWaits};
+
 use crate::codes::print_codes;
 use crate::failure::{Failure, report};
 use crate::files::{length_of, open_file};
-use crate::lines::{Manner, answer_lines};
+use crate::lines::answer_lines;
 use crate::noted::Notes;
 use crate::progress::{Progress, Terminals};
 use crate::rules::print_rules;
@@ -11,10 +21,10 @@ use crate::version::print_version;
 use crate::yaku::print_yaku;
 use clap::error::ErrorKind;
 use desk_cli::{Lines, Request, commands, nearest_rule, request_of};
-use desk_io::{FromReader, ToWriter};
+use desk_io::{FromReader, Sink, Source, ToWriter};
 use desk_lines::{replay_text, waits_answer};
 use desk_score::ScoreFault;
-use std::alloc::{AllocError, Global};
+use std::alloc::Global;
 use std::env::{self, Env};
 use std::io::{self, Eprint, Input, Print};
 use std::rt::Files;
@@ -32,14 +42,27 @@ pub fn answer<R: Input + Print + Eprint + Env + Files + Clock + AllocGlobal + Th
         Err(failure) => return report(rt, &failure),
     };
     let notes = Notes::new();
-    match answer_words(rt, terminals, &notes, words.as_slice()) {
-        Ok(is_refused) => is_refused as u8,
-        Err(failure) => report_with(rt, &failure, &notes),
+    end_with(
+        rt,
+        &answer_words(rt, terminals, &notes, words.as_slice()),
+        &notes,
+    )
+}
+
+/// The exit status: 1 where a line is refused. A failure is reported.
+fn end_with<R: Print + Eprint>(rt: &R, outcome: &Result<bool, Failure<'_>>, notes: &Notes<'_>) -> u8
+    ensures { EndsWith outcome.now result }
+{
+    match outcome {
+        Ok(is_refused) => u8::from(*is_refused),
+        Err(failure) => report_with(rt, failure, notes),
     }
 }
 
 /// Reports a failure, and below it the stream that failed, in the system's words.
-fn report_with<R: Print + Eprint>(rt: &R, failure: &Failure<'_>, notes: &Notes<'_>) -> u8 {
+fn report_with<R: Print + Eprint>(rt: &R, failure: &Failure<'_>, notes: &Notes<'_>) -> u8
+    ensures { IsReportedBy failure.now result ⊎ (IsUnwritten failure.now × (result ≡ 0)) }
+{
     if failure.is_write() && notes.is_unread() {
         return 0;
     }
@@ -79,7 +102,7 @@ fn answer_words<'a, R: Input + Print + Eprint + Files + Clock + Threads + Sync +
         return Err(Failure::Text);
     };
     let progress = progress_of(rt, terminals, &request);
-    let answered = answer_request(rt, notes, &progress, request);
+    let answered = answer_request(rt, notes, &progress, &request);
     progress.wipe();
     answered
 }
@@ -113,52 +136,42 @@ fn answer_request<'a, R: Input + Print + Eprint + Files + Clock + Threads + Sync
     rt: &R,
     notes: &Notes<'a>,
     progress: &Progress<'_, R>,
-    request: Request<'_, 'a>,
-) -> Result<bool, Failure<'a>> {
+    request: &Request<'_, 'a>,
+) -> Result<bool, Failure<'a>>
+    ensures { IsCarriedOut request.now result }
+{
     match request {
-        Request::Waits(hand) => print_waits(rt, notes, hand),
-        Request::Lines {
-            lines,
-            form,
-            rules,
-            is_numbered,
-            workers,
-            ..
-        } => {
-            let manner = Manner {
-                form,
-                is_numbered,
-                workers,
-                rules,
-            };
-            answer_lines(rt, notes, progress, lines, manner)
-        }
+        Request::Waits(hand) => print_waits(rt, notes, *hand),
+        Request::Lines { lines, manner, .. } => answer_lines(rt, notes, progress, *lines, *manner),
         Request::HelpCodes => print_codes(rt, notes),
         Request::HelpRules => print_rules(rt, notes),
         Request::HelpYaku => print_yaku(rt, notes),
-        Request::UnknownRules(word) => Err(unknown_rule(rt.alloc(), word)?),
-        Request::Replay(file) => replay_file(rt, notes, file),
+        Request::UnknownRules(word) => unknown_rule(rt.alloc(), *word),
+        Request::Replay(file) => replay_file(rt, notes, *file),
         Request::Score {
             files,
             workers,
             rules,
             is_numbered,
             ..
-        } => score_files(rt, notes, progress, files, workers, rules, is_numbered),
+        } => score_files(rt, notes, progress, *files, *workers, *rules, *is_numbered),
     }
 }
 
 /// That no rule has this name, and which one is near.
-fn unknown_rule<'a>(alloc: Global, word: &'a str) -> Result<Failure<'a>, AllocError> {
+fn unknown_rule<'a>(alloc: Global, word: &'a str) -> Result<bool, Failure<'a>>
+    ensures { IfOk result (λ is_refused. ⊥) }
+{
     let word = word.split('+').next().unwrap_or(word);
-    Ok(Failure::UnknownRule {
-        word,
-        nearest: nearest_rule(alloc, word)?,
-    })
+    let nearest = nearest_rule(alloc, word)?;
+    Err(Failure::UnknownRule { word, nearest })
 }
 
 /// What a print answers: no line is refused, or the failure of standard output, which is noted.
-pub fn printed<'a>(notes: &Notes<'a>, print: io::Result<()>) -> Result<bool, Failure<'a>> {
+pub fn printed<'a>(notes: &Notes<'a>, print: io::Result<()>) -> Result<bool, Failure<'a>>
+    ensures printed { OnOk print (result ≡ Ok false) }
+    ensures failed { OnErr print (result ≡ Err (Failure.Fault ScoreFault.Write)) }
+{
     match print {
         Ok(()) => Ok(false),
         Err(error) => {
@@ -178,7 +191,9 @@ fn print_help<'a, R: Print + Eprint>(
 }
 
 /// Prints the waits of a hand, or why it can't be read.
-fn print_waits<'a, R: Print>(rt: &R, notes: &Notes<'a>, hand: &str) -> Result<bool, Failure<'a>> {
+fn print_waits<'a, R: Print>(rt: &R, notes: &Notes<'a>, hand: &str) -> Result<bool, Failure<'a>>
+    ensures { IfOk result (TellsWaits hand.now) }
+{
     let line = waits_answer(hand.as_bytes());
     let text = line.text;
     printed(notes, println!(rt; "{text}"))?;
@@ -193,6 +208,22 @@ fn replay_file<'a, R: Print + Files + AllocGlobal>(
 ) -> Result<bool, Failure<'a>> {
     let mut reader = FromReader::new(notes.reader(file, open_file(rt, file)?));
     let mut writer = ToWriter::new(notes.output(rt));
-    let report = replay_text(rt.alloc(), &mut reader, &mut writer)?;
+    replay_reader(rt.alloc(), &mut reader, &mut writer)
+}
+
+/// Answers the script that a reader gives: whether a line of the answer is a refusal.
+fn replay_reader<'a, S: Source, W: Sink>(
+    alloc: Global,
+    reader: &mut S,
+    writer: &mut W,
+) -> Result<bool, Failure<'a>>
+    ensures { IfOk result (λ is_refused. (text : List ℕ) × (answers : List (List ℕ))
+        × GivesAll ⟦<S as Source>⟧ reader.old reader.new text
+        × Replays (lines text) answers
+        × IsOnlyReplay (lines text) answers
+        × WritesAll ⟦<W as Sink>⟧ writer.old writer.new (text_of answers)
+        × (is_refused ≡ nat_lt 0 (script_report answers).refused)) }
+{
+    let report = replay_text(alloc, reader, writer)?;
     Ok(report.refused > 0)
 }

@@ -1,8 +1,6 @@
 //! What keeps the program from an answer, and how it is reported.
-ghost use Rattle.std.specs.Prelude.{◌≡◌};
-ghost use Rattle.desk_score.specs.Faults.{desk_fault, status_of};
-ghost use Rattle.desk_score.specs.declared.score_fault.ScoreFault.{ScoreFault};
-ghost use Rattle.desk_lines.specs.declared.fault.DeskFault.{DeskFault};
+ghost use Rattle.std.specs.Bool.{OnTrue};
+ghost use Rattle.riichi_desk.specs.Failures.{HasStatus, IsReportedBy, IsUnwritten};
 
 use clap::Error;
 use clap::error::ErrorKind;
@@ -87,7 +85,9 @@ impl<'a> From<Error> for Failure<'a> {
 
 impl Failure<'_> {
     /// Whether the answers could not be written.
-    pub fn is_write(&self) -> bool {
+    pub fn is_write(&self) -> bool
+        ensures { OnTrue result (IsUnwritten self.now) }
+    {
         match self {
             Failure::Fault(ScoreFault::Write) | Failure::Explained(DeskFault::Write) => true,
             _ => false,
@@ -99,6 +99,20 @@ impl Failure<'_> {
         match self {
             Failure::Fault(ScoreFault::Read) | Failure::Explained(DeskFault::Read) => true,
             _ => self.is_write(),
+        }
+    }
+
+    /// The exit status: 2 for a fault of the command line or too much of something, 3 for input or output, 4 for memory or a
+    /// thread; 0 where help or the version was asked for.
+    fn status(&self) -> u8
+        ensures { HasStatus self.now result }
+    {
+        match self {
+            Failure::Words(error) => { if error.use_stderr() { 2 } else { 0 } }
+            Failure::Text | Failure::UnknownRule { .. } => 2,
+            Failure::CannotOpen(_) => 3,
+            Failure::Fault(fault) => fault.status(),
+            Failure::Explained(fault) => ScoreFault::from(*fault).status(),
         }
     }
 }
@@ -117,45 +131,33 @@ fn tell_unknown_rule<R: Eprint>(rt: &R, word: &str, nearest: Option<Switch>) {
     };
 }
 
-/// Says on standard error why the program stops, and returns its exit status: 2 for a fault of the command line or too much
-/// of something, 3 for input or output, 4 for memory or a thread; 0 where help or the version was asked for.
+/// Says on standard error why the program stops, and returns its exit status; 3 where that can't be written either.
 pub fn report<R: Print + Eprint>(rt: &R, failure: &Failure<'_>) -> u8
-    ensures fault { (fault : ScoreFault) → failure.now ≡ Failure.Fault fault
-        → result ≡ status_of fault }
-    ensures explained { (fault : DeskFault) → failure.now ≡ Failure.Explained fault
-        → result ≡ status_of (desk_fault fault) }
-    ensures text { failure.now ≡ Failure.Text → result ≡ 2 }
+    ensures { IsReportedBy failure.now result }
 {
     match failure {
         Failure::Words(error) => {
             if error.print(rt).is_err() {
                 return 3;
             }
-            if error.use_stderr() { 2 } else { 0 }
         }
         Failure::Text => {
             let _ = eprintln!(rt; "error: the words of the command line aren't UTF-8 text");
-            2
         }
-        Failure::UnknownRule { word, nearest } => {
-            tell_unknown_rule(rt, *word, *nearest);
-            2
-        }
+        Failure::UnknownRule { word, nearest } => tell_unknown_rule(rt, *word, *nearest),
         Failure::CannotOpen(file) => {
             let file = *file;
             let _ = eprintln!(rt; "riichi_desk: cannot open {file}");
-            3
         }
         Failure::Fault(fault) => {
             let code = fault.code();
             let _ = eprintln!(rt; "riichi_desk: fault {code}");
-            fault.status()
         }
         Failure::Explained(fault) => {
             let fault = ScoreFault::from(*fault);
             let (code, words) = (fault.code(), fault.words());
             let _ = eprintln!(rt; "riichi_desk: fault {code}: {words}");
-            fault.status()
         }
     }
+    failure.status()
 }

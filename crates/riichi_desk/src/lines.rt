@@ -1,38 +1,23 @@
 //! Record lines that are answered: those of standard input, of files, or of the command line.
+ghost use Rattle.std.specs.Prelude.{◌≡◌, ◌∷◌, ◌++◌, ℕ, List, IfOk, length, string_bytes};
+ghost use Rattle.desk_cli.specs.Commands.{command_word};
+ghost use Rattle.desk_cli.specs.Requests.{texts};
+ghost use Rattle.riichi_desk.specs.Answering as spec;
+ghost use Rattle.desk_lines.specs.Lines.{lines};
+ghost use Rattle.riichi_desk.specs.Told as told;
+
+use crate::answering::Answering;
 use crate::failure::Failure;
 use crate::files::{INPUT, open_file};
 use crate::noted::Notes;
 use crate::progress::Progress;
-use desk_cli::{Form, Lines};
-use desk_crew::Crew;
-use desk_io::{BytesIn, FromReader, Sink, Source, ToWriter};
-use desk_lines::{
-    DeskFault, DeskReport, EveryReading, Explained, Members, Numbers, Objects, Plain, Reasoned,
-    ReasonedMembers, Responder, Rules, SuitMemo, desk_text_by, numbered_text_by,
-};
+use desk_cli::{CommandName, Lines, Manner};
+use desk_io::{FromReader, Sink, ToWriter};
 use std::alloc::{AllocError, Global};
 use std::io::{Eprint, Input, Print};
 use std::rt::Files;
 use std::thread::Threads;
 use std::time::Clock;
-
-/// How lines are answered: in which form, behind their numbers or not, by how many threads where there are several, by which
-/// rules where they are given no others.
-#[derive(Clone, Copy)]
-pub struct Manner {
-    pub form: Form,
-    pub is_numbered: bool,
-    pub workers: Option<u32>,
-    pub rules: Rules,
-}
-
-/// Answers lines: how, with the rows that are kept, and where to.
-#[derive(Drop)]
-struct Answering<W> {
-    manner: Manner,
-    rows: SuitMemo,
-    writer: W,
-}
 
 /// Answers record lines on standard output: whether a line is refused.
 pub fn answer_lines<'a, R: Input + Print + Eprint + Files + Clock + Threads + Sync + AllocGlobal>(
@@ -41,21 +26,20 @@ pub fn answer_lines<'a, R: Input + Print + Eprint + Files + Clock + Threads + Sy
     progress: &Progress<'_, R>,
     lines: Lines<'_, 'a>,
     manner: Manner,
-) -> Result<bool, Failure<'a>> {
-    let mut answering = Answering {
-        manner,
-        rows: SuitMemo::new(rt.alloc()),
-        writer: ToWriter::new(notes.output(rt)),
-    };
+) -> Result<bool, Failure<'a>>
+    ensures { IfOk result (told.TellsRefused manner.rules lines.entry) }
+{
+    let mut answering = Answering::new(rt.alloc(), manner, ToWriter::new(notes.output(rt)));
     match lines {
         Lines::Input => answering.input(rt, notes, progress),
         Lines::Files(files) => answering.files(rt, notes, progress, files),
         Lines::Each(words) => answering.text(rt, &each_line(rt.alloc(), words)?),
         Lines::One(words) => answering.text(rt, &one_line(rt.alloc(), words)?),
         Lines::Record { job, hand, words } => {
-            let mut text = String::from_str(rt.alloc(), job)?;
-            push_word(&mut text, hand)?;
-            push_words(&mut text, words)?;
+            let mut text = record_line(rt.alloc(), job, hand)?;
+            if let Some(words) = words {
+                push_spaced(&mut text, words)?;
+            }
             answering.text(rt, &text)
         }
     }
@@ -67,7 +51,13 @@ impl<W: Sink> Answering<W> {
         rt: &R,
         notes: &Notes<'a>,
         progress: &Progress<'_, R>,
-    ) -> Result<bool, Failure<'a>> {
+    ) -> Result<bool, Failure<'a>>
+        ensures answered { IfOk result (λ is_refused. (text : List ℕ)
+            × spec.IsAnswered ⟦<W as Sink>⟧ self.old.writer self.new.writer
+            self.old.manner (lines text)
+            × (is_refused ≡ spec.has_refusal self.old.manner.rules text)) }
+        ensures kept { self.new.manner ≡ self.old.manner }
+    {
         let lines = notes.lines(progress, "standard input", self.manner.rules, rt.reader());
         self.source(rt, &mut FromReader::new(lines))
     }
@@ -79,7 +69,12 @@ impl<W: Sink> Answering<W> {
         notes: &Notes<'a>,
         progress: &Progress<'_, R>,
         files: &[&'a str],
-    ) -> Result<bool, Failure<'a>> {
+    ) -> Result<bool, Failure<'a>>
+        ensures answered { IfOk result (λ is_refused. (given : List (List ℕ))
+            × (length given ≡ length files.now)
+            × spec.AnswersTexts ⟦<W as Sink>⟧ self.old.manner
+            self.old.writer given self.new.writer is_refused) }
+    {
         let mut is_refused = false;
         for file in files {
             let file = *file;
@@ -97,65 +92,12 @@ impl<W: Sink> Answering<W> {
         }
         Ok(is_refused)
     }
-
-    fn text<'a, R: Threads + Sync + AllocGlobal>(
-        &mut self,
-        rt: &R,
-        text: &String,
-    ) -> Result<bool, Failure<'a>> {
-        self.source(rt, &mut BytesIn::new(text.as_bytes(), text.len() + 1, None))
-    }
-
-    /// Answers the lines of a source: whether one is refused.
-    fn source<'a, S: Source, R: Threads + Sync + AllocGlobal>(
-        &mut self,
-        rt: &R,
-        reader: &mut S,
-    ) -> Result<bool, Failure<'a>> {
-        let report = match self.manner.form {
-            Form::Words => self.by_kind::<Plain, Plain, S, R>(rt, reader),
-            Form::Json => self.by_kind::<Objects, Members, S, R>(rt, reader),
-            Form::Reasons => self.by_kind::<Explained, Explained, S, R>(rt, reader),
-            Form::AllReasons => self.by_kind::<EveryReading, EveryReading, S, R>(rt, reader),
-            Form::JsonReasons => self.by_kind::<Reasoned, ReasonedMembers, S, R>(rt, reader),
-        };
-        match report {
-            Ok(report) => Ok(report.refused > 0),
-            Err(fault) => Err(match self.manner.form {
-                Form::Reasons | Form::AllReasons | Form::JsonReasons => Failure::Explained(fault),
-                Form::Words | Form::Json => Failure::from(fault),
-            }),
-        }
-    }
-
-    /// Answers by a kind of answer, or by another one where it stands behind the number of its line; by threads where they are
-    /// wanted.
-    fn by_kind<A, N, S, R>(&mut self, rt: &R, reader: &mut S) -> Result<DeskReport, DeskFault>
-    where
-        A: Responder + Send + Sync,
-        N: Numbers,
-        S: Source,
-        R: Threads + Sync + AllocGlobal,
-    {
-        let (rows, rules, writer) = (&mut self.rows, self.manner.rules, &mut self.writer);
-        if self.manner.is_numbered {
-            return numbered_text_by::<N, SuitMemo, S, W>(rows, rules, reader, writer);
-        }
-        match self.manner.workers {
-            None | Some(1) => desk_text_by::<A, SuitMemo, S, W>(rows, rules, reader, writer),
-            Some(workers) => {
-                let mut crew = match self.manner.form {
-                    Form::Words => Crew::new(rt.alloc(), workers as usize)?,
-                    _ => Crew::for_objects(rt.alloc(), workers as usize)?,
-                };
-                crew.answer_text::<A, R, S, W>(rt, rules, reader, writer)
-            }
-        }
-    }
 }
 
 /// The words, each with its line feed.
-fn each_line(alloc: Global, words: &[&str]) -> Result<String, AllocError> {
+fn each_line(alloc: Global, words: &[&str]) -> Result<String, AllocError>
+    ensures { IfOk result (λ text. string_bytes text ≡ told.each_line (texts words.now)) }
+{
     let mut text = String::new(alloc);
     for word in words {
         text.push_str(word)?;
@@ -165,23 +107,35 @@ fn each_line(alloc: Global, words: &[&str]) -> Result<String, AllocError> {
 }
 
 /// The words, parted by spaces.
-fn one_line(alloc: Global, words: &[&str]) -> Result<String, AllocError> {
-    let mut text = String::new(alloc);
-    push_words(&mut text, words)?;
+fn one_line(alloc: Global, words: &[&str]) -> Result<String, AllocError>
+    ensures { IfOk result (λ text. string_bytes text ≡ told.one_line (texts words.now)) }
+{
+    let Some((first, others)) = words.split_first() else {
+        return Ok(String::new(alloc));
+    };
+    let mut text = String::from_str(alloc, first)?;
+    push_spaced(&mut text, others)?;
     Ok(text)
 }
 
-fn push_words(text: &mut String, words: &[&str]) -> Result<(), AllocError> {
-    for word in words {
-        push_word(text, word)?;
-    }
-    Ok(())
+/// A job and its hand.
+fn record_line(alloc: Global, job: CommandName, hand: &str) -> Result<String, AllocError>
+    ensures { IfOk result (λ text. string_bytes text ≡ command_word job ++ 32 ∷ hand.now) }
+{
+    let mut text = String::from_str(alloc, job.word())?;
+    text.push(' ')?;
+    text.push_str(hand)?;
+    Ok(text)
 }
 
-/// A word behind a text, with a space before it where the text has any.
-fn push_word(text: &mut String, word: &str) -> Result<(), AllocError> {
-    if !text.is_empty() {
+/// Words behind a text, a space before each.
+fn push_spaced(text: &mut String, words: &[&str]) -> Result<(), AllocError>
+    ensures { IfOk result (λ _. string_bytes text.new
+        ≡ string_bytes text.old ++ told.spaced (texts words.now)) }
+{
+    for word in words {
         text.push(' ')?;
+        text.push_str(word)?;
     }
-    text.push_str(word)
+    Ok(())
 }

@@ -1,11 +1,12 @@
 //! The program `riichi_desk`: a scoring desk for riichi mahjong.
 //!
-//! `desk_cli` reads the command line into a `Request`, `answers` carries it out, `lines` over record lines and `scoring`
-//! over the files of tables, `codes`, `yaku`, `rules` and `version` print what they are named for. `failure` says what is written on standard
+//! `desk_cli` reads the command line into a `Request`, `answers` carries it out, `lines` over record lines, which `answering`
+//! answers in their form, and `scoring` over the files of tables, `codes`, `yaku`, `rules` and `version` print what they are named for. `failure` says what is written on standard
 //! error and with which exit status the program ends; `noted` keeps what the system said of a stream that failed,
 //! `profile` finds lines that look like a profile line and are none, and `progress` shows on a terminal how far the answers are.
 #![tactic(auto)]
 
+mod answering;
 mod answers;
 mod codes;
 mod failure;

@@ -1,8 +1,7 @@
 //! What the system said of the stream that failed last.
 use crate::profile::{ProfileWatch, Slip};
 use crate::progress::Progress;
-use desk_lines::Rules;
-use riichi_hand::{RuleSet, rules_words};
+use riichi_hand::{Rules, rules_words};
 use std::cell::Cell;
 use std::io::{self, Eprint, ErrorKind, Print, Printer, Read, Write};
 use std::time::Clock;
@@ -161,7 +160,7 @@ impl<R: Eprint + Clock, T: Read> Read for Watched<'_, '_, R, T> {
 fn tell_slip<R: Eprint>(rt: &R, name: &str, slip: Slip) {
     let line = slip.line;
     let rules = rules_words(slip.rules);
-    let what = if RuleSet::of(slip.rules).is_house() {
+    let what = if slip.rules.is_house() {
         "the rules"
     } else {
         "profile"

@@ -1,4 +1,7 @@
 //! Lines that look like a profile line and are none.
+ghost use Rattle.std.specs.Prelude.{◌≡◌, IfSome};
+ghost use Rattle.riichi_desk.specs.Counts.{one_more};
+
 use arrayvec::ArrayVec;
 use desk_lines::{Rules, ended_bytes, profile_of};
 use memchr::{memchr, memchr2_iter};
@@ -93,7 +96,11 @@ impl ProfileWatch {
     }
 
     /// A line has ended, of which this is the rest.
-    fn next_line(&mut self, rest: &[u8]) -> Option<Slip> {
+    fn next_line(&mut self, rest: &[u8]) -> Option<Slip>
+        ensures ended { self.new.ended ≡ one_more self.old.ended }
+        ensures line { IfSome result (λ slip. slip.line ≡ self.new.ended) }
+        ensures rules { IfSome result (λ slip. slip.rules ≡ self.new.rules) }
+    {
         self.keep(rest);
         self.end_line()
     }
@@ -106,13 +113,20 @@ impl ProfileWatch {
     }
 
     /// Keeps more of the front of the line.
-    fn keep(&mut self, bytes: &[u8]) {
+    fn keep(&mut self, bytes: &[u8])
+        ensures { self.new.ended ≡ self.old.ended }
+    {
         let room = self.front.remaining_capacity();
         let _ = self.front.try_extend_from_slice(at_most(room, bytes));
     }
 
     /// The line has ended.
-    fn end_line(&mut self) -> Option<Slip> {
+    fn end_line(&mut self) -> Option<Slip>
+        ensures ended { self.new.ended ≡ one_more self.old.ended }
+        ensures line { IfSome result (λ slip. slip.line ≡ self.new.ended) }
+        ensures rules { IfSome result (λ slip. slip.rules ≡ self.new.rules) }
+        ensures found { self.new.is_found ≡ self.old.is_found }
+    {
         self.ended = self.ended.saturating_add(1);
         let line = self.ended;
         let front = self.front.as_slice();

@@ -1,29 +1,39 @@
 //! The command `help-rules`: every rule that a house may choose.
+ghost use Rattle.std.specs.Prelude.{◌≡◌, false, IfOk};
+
 use crate::answers::printed;
 use crate::failure::Failure;
 use crate::noted::Notes;
-use std::io::Print;
+use riichi_hand::{Rules, Switch};
+use std::io::{self, Print};
 
-/// Each rule with what it means, and whether it is on in the profiles 1 and 2. docs/RULES.md has the same table.
-const RULES: &str = "\
-Rules
-  Word              1    2    On means
-  red-fives         off  on   a 0 is a red five (aka dora), and one han; off, it is a plain five
-  raise             off  on   four han 30 fu and three han 60 fu are a mangan (kiriage mangan)
-  add-yakuman       off  off  several yakuman pay a limit each; off, one limit
-  double-yakuman    off  off  four concealed pungs completed in the pair, thirteen orphans on thirteen waits, nine gates on
-                              nine waits and big four winds pay two limits
-  counted-yakuman   on   on   13 han and more pay a yakuman (kazoe yakuman); off, as 11 and 12
-  double-wind-pair  on   on   a pair of both the seat wind and the prevalent wind has 4 fu; off, 2
-  kong-draw-fu      on   on   the draw after a kong has the 2 fu of any self-draw
-  open-simples      on   on   all simples holds for an open hand too (kuitan)
-  open-pinfu-fu     on   on   an open hand won by ron whose fu are 20 counts 30; off, 20
-  ippatsu           on   on   a win within one turn of riichi has the yaku ippatsu
-  ura               on   on   the indicators below count (ura dora)
-  blessing-of-man   off  off  the flag first by ron of a seat that isn't the dealer's is a yakuman (renhou); off, H15
+/// How rules are named on the command line.
+const OPTION: &str = "\
+Rules on the command line
+  --rules takes a profile and behind it each rule that is turned on or off, as 1+red-fives-ura; of a rule that stands there
+  twice the last sign counts
 ";
 
-/// Prints every rule that a house may choose.
-pub fn print_rules<'a, R: Print>(rt: &R, notes: &Notes<'a>) -> Result<bool, Failure<'a>> {
-    printed(notes, print!(rt; "{RULES}"))
+/// Prints every rule that a house may choose, with what it means, and whether it is on in the profiles 1 and 2. No line is
+/// refused.
+pub fn print_rules<'a, R: Print>(rt: &R, notes: &Notes<'a>) -> Result<bool, Failure<'a>>
+    ensures { IfOk result (λ is_refused. is_refused ≡ false) }
+{
+    printed(notes, print_table(rt))
+}
+
+fn print_table<R: Print>(rt: &R) -> io::Result<()> {
+    println!(rt; "Rules\n  Word              1    2    On means")?;
+    for switch in Switch::ALL {
+        let word = switch.word();
+        let first = on_or_off(Rules::One.has(switch));
+        let second = on_or_off(Rules::Two.has(switch));
+        let meaning = switch.meaning();
+        println!(rt; "  {word:<16}  {first:<3}  {second:<3}  {meaning}")?;
+    }
+    print!(rt; "{OPTION}")
+}
+
+fn on_or_off(is_on: bool) -> &'static str {
+    if is_on { "on" } else { "off" }
 }

@@ -1,9 +1,14 @@
 //! The command `score`: files of hands, each a table.
+ghost use Rattle.std.specs.Prelude.{◌≡◌, ◌<◌, ℕ, List, Err, IfOk, IfErr, length, map, nat_lt, option_map};
+ghost use Rattle.desk_lines.specs.Streams.{WritesAll};
+ghost use Rattle.desk_score.specs.Score.{AllGive, score_by, score_report};
+ghost use Rattle.desk_score.specs.declared.score_fault.ScoreFault.{ScoreFault};
+
 use crate::failure::Failure;
 use crate::files::open_file;
 use crate::noted::{Notes, Watched};
 use crate::progress::Progress;
-use desk_io::{FromReader, ToWriter};
+use desk_io::{FromReader, Sink, Source, ToWriter};
 use desk_lines::Rules;
 use desk_score::{ScoreFault, score_text_with};
 use std::io::{Eprint, Print};
@@ -24,14 +29,36 @@ pub fn score_files<'a, R: Files + Print + Eprint + Clock + Threads + Sync + Allo
     workers: u32,
     rules: Rules,
     is_numbered: bool,
-) -> Result<bool, Failure<'a>> {
+) -> Result<bool, Failure<'a>>
+    ensures { 64 < length files.now → result ≡ Err (Failure.Fault ScoreFault.Range) }
+{
     if files.len() > MOST_FILES {
         return Err(Failure::Fault(ScoreFault::Range));
     }
     let readers = open_files(rt, notes, progress, rules, files)?;
     let mut writer = ToWriter::new(notes.output(rt));
     let names = if is_numbered { Some(files) } else { None };
-    let report = score_text_with(rt, rt.alloc(), rules, names, readers, workers, &mut writer)?;
+    score_readers(rt, rules, names, readers, workers, &mut writer)
+}
+
+/// Answers the texts that readers give, each a table, and which may be named: whether a line is refused.
+fn score_readers<'a, S: Source + Drop, W: Sink, R: Threads + Sync + AllocGlobal>(
+    rt: &R,
+    rules: Rules,
+    names: Option<&[&str]>,
+    readers: Vec<S>,
+    workers: u32,
+    writer: &mut W,
+) -> Result<bool, Failure<'a>>
+    ensures ok { let told = option_map (λ names. map (λ name. name.now) names.now) names.entry in
+        IfOk result (λ is_refused. (texts : List (List ℕ))
+        × AllGive ⟦<S as Source>⟧ readers.items texts
+        × WritesAll ⟦<W as Sink>⟧ writer.old writer.new (score_by told rules texts)
+        × (is_refused ≡ nat_lt 0 (score_report rules texts).refused)) }
+    ensures failed { IfErr result
+        (λ failure. (fault : ScoreFault) × (failure ≡ Failure.Fault fault)) }
+{
+    let report = score_text_with(rt, rt.alloc(), rules, names, readers, workers, writer)?;
     Ok(report.refused > 0)
 }
 

@@ -1,6 +1,6 @@
 -- What a program is answered as JSON, with why a win is answered so.
 use Rattle.std.specs.Prelude.{◌≡◌, ℕ, List, Option, None, Some}
-use Rattle.riichi_hand.specs.declared.win.Rules.{Rules}
+use Rattle.riichi_hand.specs.Rules.{Rules}
 use Rattle.riichi_hand.specs.declared.win.WinParts.{WinParts}
 use Rattle.riichi_hand.specs.Lines.{outcome_of}
 use Rattle.desk_lines.specs.Reasoned.{win_in}

@@ -1,6 +1,6 @@
 -- What a program is answered as JSON.
 use Rattle.std.specs.Prelude.{ℕ, List, [], Option, None, Some, unwrap_or, codes}
-use Rattle.riichi_hand.specs.declared.win.Rules.{Rules}
+use Rattle.riichi_hand.specs.Rules.{Rules}
 use Rattle.desk_lines.specs.JsonLine.{json_of}
 use Rattle.riichi_desk_c.specs.Replies.{rules_numbered}
 

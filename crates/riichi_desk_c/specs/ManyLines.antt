@@ -1,6 +1,6 @@
 -- What a program is answered to the lines of a text.
 use Rattle.std.specs.Prelude.{◌≡◌, ℕ, List, Option, None, Some}
-use Rattle.riichi_hand.specs.declared.win.Rules.{Rules}
+use Rattle.riichi_hand.specs.Rules.{Rules}
 use Rattle.desk_lines.specs.Filling.{Fills}
 use Rattle.desk_lines.specs.Records.{AnswerKind}
 use Rattle.riichi_desk_c.specs.Replies.{rules_numbered}

@@ -1,6 +1,6 @@
 -- Why a program is answered as it is.
 use Rattle.std.specs.Prelude.{◌≡◌, ◌≤◌, ◌<◌, ◌++◌, ℕ, List, Option, None, Some, length, drop, codes}
-use Rattle.riichi_hand.specs.declared.win.Rules.{Rules}
+use Rattle.riichi_hand.specs.Rules.{Rules}
 use Rattle.riichi_explain.specs.declared.explaining.Shown.TheVariants.{BestReading}
 use Rattle.riichi_explain.specs.Explanation.{IsExplanation}
 use Rattle.riichi_desk_c.specs.Replies.{rules_numbered}

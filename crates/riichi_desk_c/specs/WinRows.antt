@@ -1,6 +1,6 @@
 -- What is told of wins under the profile of a number.
 use Rattle.std.specs.Prelude.{◌≡◌, ℕ, List, Option, Some, None}
-use Rattle.riichi_hand.specs.declared.win.Rules.{Rules}
+use Rattle.riichi_hand.specs.Rules.{Rules}
 use Rattle.riichi_win_arrays.specs.Wins.{AreScored}
 use Rattle.riichi_win_arrays.specs.declared.score_row.ScoreRow.{ScoreRow}
 use Rattle.riichi_win_arrays.specs.declared.win_row.WinRow.{WinRow}

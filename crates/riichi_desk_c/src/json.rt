@@ -6,7 +6,7 @@ use crate::placing::place;
 use crate::rules_numbered;
 use desk_core::judge;
 use desk_json::{JsonText, push_answer, push_refusal};
-use riichi_hand::{RuleSet, read_placed};
+use riichi_hand::{Rules, read_placed};
 
 /// Answers one line as `riichi_answer` does, but as one object of JSON, which docs/NOTATION.md and
 /// docs/answer.schema.json have: the bytes that it takes, 0 where the line is no record. They are
@@ -28,7 +28,7 @@ pub extern "C" fn riichi_json(rules: u32, line: &[u8], room: &mut [u8]) -> usize
     let mut text = JsonText::new();
     match read_placed(rules, line) {
         Ok(None) => {}
-        Ok(Some(job)) => push_answer(&mut text, RuleSet::of(rules), &judge(&job)),
+        Ok(Some(job)) => push_answer(&mut text, rules, &judge(&job)),
         Err(refusal) => push_refusal(&mut text, line, &refusal),
     }
     place(text.as_str().as_bytes(), room)

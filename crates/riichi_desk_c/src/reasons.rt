@@ -8,22 +8,23 @@ ghost use Rattle.riichi_desk_c.specs.Reasons.{PlacesReason};
 
 use super::placing::place;
 use super::rules_numbered;
-use arrayvec::ArrayString;
 use riichi_explain::{
-    explain_shape, explain_waits, explain_win, push_shanten_line, push_waits_line, push_win_lines,
+    REASONS_ROOM, ReasonsText, explain_shape, explain_waits, explain_win, push_shanten_line,
+    push_waits_line, push_win_lines,
 };
 use riichi_hand::{Job, Refusal, read_placed};
 use riichi_hints::push_refusal;
 use riichi_shape::FreshRows;
+use riichi_text::AnswerText;
 
-/// Says why one line is answered as it is, under the profile of this number, 1 or 2: the bytes that the text takes, 0 where the
+/// Says why one line is answered as it is, under the rules of this number: the bytes that the text takes, 0 where the
 /// line is no record. The text is put at the start of the room if all of it fits there: the lines that stand behind the
 /// answer where it is explained, each with its line feed. Under any other number the text is `refused rules`.
 #[tactic(auto, unfolding(riichi_explain::specs::Explanation::IsExplanation))]
 #[unsafe(no_mangle)]
 pub extern "C" fn riichi_explain(rules: u32, line: &[u8], room: &mut [u8]) -> usize
     ensures placed { PlacesReason rules line.now result room.old room.new }
-    ensures most { result ≤ 4608 }
+    ensures most { result ≤ REASONS_ROOM }
 {
     let Some(rules) = rules_numbered(rules) else {
         return place(b"refused rules", room);
@@ -35,10 +36,10 @@ pub extern "C" fn riichi_explain(rules: u32, line: &[u8], room: &mut [u8]) -> us
     }
 }
 
-fn job_lines(job: &Job) -> ArrayString<4608>
+fn job_lines(job: &Job) -> ReasonsText
     ensures { IsJobText BestReading job.now result.bytes }
 {
-    let mut text = ArrayString::new();
+    let mut text = ReasonsText::new();
     match job {
         Job::Win(win) => push_win_lines(&mut text, explain_win(&mut FreshRows, win), win),
         Job::Waits(hand) => push_waits_line(&mut text, explain_waits(hand).rows.as_slice()),
@@ -47,12 +48,12 @@ fn job_lines(job: &Job) -> ArrayString<4608>
     text
 }
 
-fn refusal_text(line: &[u8], refusal: &Refusal<'_>) -> ArrayString<3072>
+fn refusal_text(line: &[u8], refusal: &Refusal<'_>) -> AnswerText
     requires { option_map (λ from. from.now) refusal.now.from
         ≡ fault_from refusal.now.fault line.now }
     ensures { IsRefusalText line.now refusal.now.fault result.bytes }
 {
-    let mut text = ArrayString::new();
+    let mut text = AnswerText::new();
     push_refusal(&mut text, line, refusal);
     text
 }

@@ -45,7 +45,7 @@ use Rattle.riichi_explain.specs.declared.explaining.Shown.TheVariants.{BestReadi
 use Rattle.riichi_explain.specs.declared.ranked.RankedReading.{RankedReading}
 use Rattle.riichi_explain.specs.Explanation.{rules_line, reason_lines, win_lines, AreOthers, IsBestText, IsWinText, IsJobText, IsOutcomeText}
 use Rattle.riichi_explain.specs.Han.{han_rows}
-use Rattle.riichi_explain.specs.Others.{scored_text, ranked_text, other_reading_text, fitting, more_line, more_if}
+use Rattle.riichi_explain.specs.Others.{scored_text, ranked_text, other_reading_text}
 use Rattle.riichi_explain.specs.Win.{counted_fu, explained_reading}
 use Rattle.riichi_explain.specs.Forms.{shanten_text, form_text, special_form_text as other_form, shanten_line}
 use Rattle.riichi_explain.specs.Text as text
@@ -424,30 +424,17 @@ unless-lines : (is_shown : Bool) (lines : List ℕ) → are_indented lines ≡ t
 unless-lines true lines p = refl
 unless-lines false lines p = p
 
-fitting-lines : (shown : Reading) (win : WinParts) (last : List ℕ) (room : ℕ) (ranked : List RankedReading) → are_indented last ≡ true → are_indented (fitting last room (map (other_reading_text shown win) ranked)) ≡ true
-fitting-lines shown win last room [] p = p
-fitting-lines shown win last room (one ∷ ranked) p =
-    let lines = other_reading_text shown win one in
-    let more = fitting last (room - length lines) (map (other_reading_text shown win) ranked) in
-    elim (nat_le (length lines + 60) room) as (λ test. are_indented (cond test (lines ++ more) more_line) ≡ true) [
-      | true ↦ lines-append lines more (unless-lines (readings.eq one.reading shown) (ranked_text win one.reading one.score) (ranked_text-lines win one.reading one.score)) (fitting-lines shown win last (room - length lines) ranked p)
-      | false ↦ refl
-    ]
-
-more_if-lines : (has_more : Bool) → are_indented (more_if has_more) ≡ true
-more_if-lines true = refl
-more_if-lines false = refl
-
 others-lines : (best : Option Reading) (win : WinParts) (said : List ℕ) → AreOthers best win said → are_indented said ≡ true
 others-lines None win said are = ap are_indented are
 others-lines (Some best) win said are =
-    ap are_indented are.text_is ∙ fitting-lines best win _ 4608 are.ranking.ranked.items (more_if-lines (nat_lt 0 (length are.ranking.rest)))
+    ap are_indented are.text_is ∙ flat_map-lines (other_reading_text best win) are.ranked
+    (λ one. unless-lines (readings.eq one.reading best) (ranked_text win one.reading one.score) (ranked_text-lines win one.reading one.score))
 
 -- ---- every explanation
 
 reason_lines-lines : (explanation : WinExplanation) (win : WinParts) → are_indented (reason_lines explanation win) ≡ true
 reason_lines-lines (Won hand) win = won_hand_text-lines hand
-reason_lines-lines (NoYaku readings) win = flat_map-lines (λ (read : Reading). text.no_yaku_line read win) (take 12 readings) (λ read. no_yaku_line-lines read win)
+reason_lines-lines (NoYaku ranked) win = flat_map-lines (λ (one : RankedReading). text.no_yaku_line one.reading win) ranked.items (λ one. no_yaku_line-lines one.reading win)
 reason_lines-lines (NoWin missed) win = missed_lines-lines missed
 
 win_lines-lines : (explanation : WinExplanation) (win : WinParts) → are_indented (win_lines explanation win) ≡ true

@@ -3,7 +3,6 @@ pub mod HanLemmas
 pub mod DoraLemmas
 pub mod WinLemmas
 pub mod RankLemmas
-pub mod FittingLemmas
 pub mod TextLemmas
 pub mod FormLemmas
 pub mod PlainTexts

@@ -1,6 +1,6 @@
 -- What is kept where one more reading is ranked.
-use Rattle.std.proofs.Common.{◌≡◌, ℕ, ◌+◌, ◌-◌, ◌<◌, ◌≤◌, true, false, Option, List, [], ◌∷◌, ◌++◌, length, get_or, map, take, drop, sym, ap, ◌∙◌, inl, inr, arith, refl}
-use Rattle.std.specs.Prelude.{All, IsPermutation}
+use Rattle.std.proofs.Common.{◌≡◌, ℕ, ◌+◌, ◌-◌, ◌<◌, ◌≤◌, true, false, Option, List, [], ◌∷◌, ◌++◌, length, get_or, map, sym, ap, subst, ◌∙◌, inl, inr, arith, refl}
+use Rattle.std.specs.Prelude.{All, Contains, IsPermutation}
 use Rattle.std.specs.List.{insert, AllByRecursion}
 use Rattle.std.specs.declared.cmp.Ordering.{Ordering}
 use Rattle.std.specs.declared.cmp.Ordering.TheVariants.{Less, Equal, Greater}
@@ -9,7 +9,7 @@ use Rattle.std.specs.Cmp.Lexicographic.{slice_cmp}
 use Rattle.std.proofs.lemmas.Bool.{cases_lt, cases_eq}
 use Rattle.std.proofs.lemmas.Cmp.{nat_list_cmp_total}
 use Rattle.std.proofs.lemmas.List.Edits.{length-insert, get_or-insert_below, get_or-insert_at, get_or-insert_above}
-use Rattle.std.proofs.lemmas.List.Elements.{All-cons, All-head, All-same, All-drop, All-take, All-from_recursion, recursion_from_All}
+use Rattle.std.proofs.lemmas.List.Elements.{All-cons, All-contains, Contains-append_right, All-from_recursion, recursion_from_All}
 use Rattle.std.proofs.lemmas.List.Sorted.{IsPermutation-insert, IsPermutation-map, IsPermutation-push_more, All-permutation}
 use Rattle.riichi_hand.specs.declared.win.WinParts.{WinParts}
 use Rattle.riichi_split.specs.declared.reading.Reading.{Reading}
@@ -18,7 +18,6 @@ use Rattle.riichi_score.specs.Fu.{HasFourSets}
 use Rattle.riichi_score.specs.Scores.{score_of, IsReadingOf}
 use Rattle.riichi_score.proofs.Greatest.{AreReadingsOf, four_sets}
 use Rattle.riichi_explain.specs.declared.ranked.RankedReading.{RankedReading}
-use Rattle.riichi_explain.specs.declared.ranked.Ranking.{Ranking}
 use Rattle.riichi_explain.specs.Ranked.{rank_if, is_worth_more, AreInOrder, AreRanked}
 
 -- ---- one of two readings at most is worth more than the other
@@ -89,17 +88,16 @@ scored-insert win ranked place x is h =
     let scored = λ (one : RankedReading). one.score ≡ score_of one.reading win in
     All-permutation scored (x ∷ ranked) (insert ranked place x) (IsPermutation-insert ranked place x) (All-cons scored x ranked is h)
 
--- ---- the next reading of the hand
+-- ---- the sets of each reading
 
-pub next_four_sets : (win : WinParts) (readings rest : List Reading) (turn : ℕ) (next : Reading) → AreReadingsOf win readings → drop turn readings ≡ next ∷ rest → HasFourSets next win
-next_four_sets win readings rest turn next are is =
-    four_sets win next (All-head (IsReadingOf win) next rest (All-same (IsReadingOf win) (next ∷ rest) (drop turn readings) (sym is) (All-drop (IsReadingOf win) turn readings are.sound)))
+pub next_four_sets : (win : WinParts) (all before left rest : List Reading) (next : Reading) → AreReadingsOf win all → all ≡ before ++ left → left ≡ next ∷ rest → HasFourSets next win
+next_four_sets win all before left rest next are parts is =
+    let there : Contains (before ++ next ∷ rest) next = Contains-append_right before (next ∷ rest) next (0, omega arith, refl) in
+    four_sets win next (All-contains (IsReadingOf win) all next are.sound (subst (λ (readings : List Reading). Contains readings next) (sym (parts ∙ ap (λ x. before ++ x) is)) there))
 
-pub ranked_four_sets : (win : WinParts) (ranking : Ranking) → AreRanked win ranking → All (λ one. HasFourSets one.reading win) ranking.ranked.items
-ranked_four_sets win ranking are =
-    let ranked = ranking.ranked.items in
-    let sound = All-take (IsReadingOf win) 12 are.readings are.are_all.sound in
-    let all = All-permutation (IsReadingOf win) (take 12 are.readings) (readings_in ranked) are.each_once sound in
+pub ranked_four_sets : (win : WinParts) (ranked : List RankedReading) → AreRanked win ranked → All (λ one. HasFourSets one.reading win) ranked
+ranked_four_sets win ranked are =
+    let all = All-permutation (IsReadingOf win) are.readings (readings_in ranked) are.each_once are.are_all.sound in
     All-from_recursion (λ one. HasFourSets one.reading win) ranked (each ranked (recursion_from_All (IsReadingOf win) (readings_in ranked) all))
   where
     each : (ranked : List RankedReading) → AllByRecursion (IsReadingOf win) (readings_in ranked) → AllByRecursion (λ one. HasFourSets one.reading win) ranked

@@ -4,7 +4,7 @@ use Rattle.std.proofs.lemmas.Bool.Decides.{nat_tests}
 use Rattle.riichi_tiles.specs.Melds.{are_concealed}
 use Rattle.riichi_hand.specs.declared.win.By.{By}
 use Rattle.riichi_hand.specs.declared.win.By.TheVariants.{Ron, Tsumo}
-use Rattle.riichi_hand.specs.declared.house.House.{House}
+use Rattle.riichi_hand.specs.Rules.{Rules, is_on}
 use Rattle.riichi_hand.specs.declared.win.WinParts.{WinParts}
 use Rattle.riichi_split.specs.declared.reading.Reading.{Reading}
 use Rattle.riichi_split.specs.declared.reading.Reading.TheVariants.{Standard, SevenPairs, Orphans}
@@ -32,6 +32,7 @@ use Rattle.riichi_explain.specs.Win.{counted_dora, counted_fu, IsWonHand}
 use Rattle.riichi_explain.proofs.DoraLemmas.{rows_give_dora}
 use Rattle.riichi_explain.proofs.FuLemmas.{rows_give_fu}
 use Rattle.riichi_explain.proofs.HanLemmas.{han_rows-total}
+use Rattle.riichi_hand.specs.declared.switch.Switch.TheVariants.{CountedYakuman}
 
 -- ---- base points
 
@@ -53,9 +54,9 @@ counted-cases false false false false false true raised above product e = refl
 counted-cases false false false false false false raised above product e = refl
 
 -- a counted hand's rule gives the points of the table
-counted-points : (rules : House) (han fu : ℕ) → points_by (counted_rule rules han fu) ≡ base_of rules han fu
+counted-points : (rules : Rules) (han fu : ℕ) → points_by (counted_rule rules han fu) ≡ base_of rules han fu
 counted-points rules han fu =
-    counted-cases (leb han 4) (leb han 5) (leb han 7) (leb han 10) (leb han 12) rules.counted_yakuman (is_raised rules han fu) (ltb 2000 (product_of han fu)) (product_of han fu) refl
+    counted-cases (leb han 4) (leb han 5) (leb han 7) (leb han 10) (leb han 12) (is_on CountedYakuman rules) (is_raised rules han fu) (ltb 2000 (product_of han fu)) (product_of han fu) refl
 
 base-cases : (four five seven ten twelve counted raised : Bool) (product : ℕ)
     → cond four (cond raised 2000 (min 2000 product)) (cond five 2000 (cond seven 3000 (cond ten 4000 (cond twelve 6000 (cond counted 8000 6000))))) ≤ 8000
@@ -68,8 +69,8 @@ base-cases false false false false true counted raised product = omega arith
 base-cases false false false false false true raised product = omega arith
 base-cases false false false false false false raised product = omega arith
 
-base-most : (rules : House) (han fu : ℕ) → base_of rules han fu ≤ 8000
-base-most rules han fu = base-cases (leb han 4) (leb han 5) (leb han 7) (leb han 10) (leb han 12) rules.counted_yakuman (is_raised rules han fu) (product_of han fu)
+base-most : (rules : Rules) (han fu : ℕ) → base_of rules han fu ≤ 8000
+base-most rules han fu = base-cases (leb han 4) (leb han 5) (leb han 7) (leb han 10) (leb han 12) (is_on CountedYakuman rules) (is_raised rules han fu) (product_of han fu)
 
 -- ---- payments
 

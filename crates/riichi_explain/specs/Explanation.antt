@@ -1,9 +1,8 @@
 -- The lines that follow an answer and say why it is what it is.
-use Rattle.std.specs.Prelude.{◌≡◌, ℕ, List, [], ◌++◌, Option, None, Some, Result, Ok, Err, codes, take}
+use Rattle.std.specs.Prelude.{◌≡◌, ℕ, List, [], ◌++◌, Option, None, Some, Result, Ok, Err, codes}
 use Rattle.std.specs.List.{flat_map}
-use Rattle.riichi_hand.specs.declared.house.House.{House}
+use Rattle.riichi_hand.specs.Rules.{Rules}
 use Rattle.riichi_hand.specs.declared.win.WinParts.{WinParts}
-use Rattle.riichi_hand.specs.declared.win.Rules.{Rules}
 use Rattle.riichi_hand.specs.declared.job.Job.{Job}
 use Rattle.riichi_hand.specs.declared.job.Job.TheVariants as job
 use Rattle.riichi_hand.specs.declared.fault.LineFault.{LineFault}
@@ -15,6 +14,7 @@ use Rattle.riichi_score.specs.Best.{best_of}
 use Rattle.riichi_shape.specs.declared.forms.FormDistances.{FormDistances}
 use Rattle.riichi_explain.specs.declared.explaining.Shown.{Shown}
 use Rattle.riichi_explain.specs.declared.explaining.Shown.TheVariants.{BestReading, EveryReading}
+use Rattle.riichi_explain.specs.declared.ranked.RankedReading.{RankedReading}
 use Rattle.riichi_explain.specs.declared.win.WinExplanation.{WinExplanation}
 use Rattle.riichi_explain.specs.declared.win.WinExplanation.TheVariants.{Won, NoYaku, NoWin}
 use Rattle.riichi_hints.specs.Hint.{IsRefusalText}
@@ -25,17 +25,17 @@ use Rattle.riichi_explain.specs.Text.{won_hand_text, no_yaku_line, line_feed}
 use Rattle.riichi_explain.specs.Waits.{kind_waits, waits_line}
 use Rattle.riichi_explain.specs.Win.{Explains, explained_answer, explained_reading}
 
--- the lines of readings without yaku: of the first twelve
-abbrev pub no_yaku_lines : List Reading → WinParts → List ℕ
-no_yaku_lines readings win = flat_map (λ reading. no_yaku_line reading win) (take 12 readings)
+-- the lines of readings without yaku
+abbrev pub no_yaku_lines : List RankedReading → WinParts → List ℕ
+no_yaku_lines ranked win = flat_map (λ one. no_yaku_line one.reading win) ranked
 
 abbrev pub reason_lines : WinExplanation → WinParts → List ℕ
 reason_lines (Won hand) win = won_hand_text hand
-reason_lines (NoYaku readings) win = no_yaku_lines readings win
+reason_lines (NoYaku ranked) win = no_yaku_lines ranked.items win
 reason_lines (NoWin missed) win = missed_lines missed
 
 -- rules that are neither profile have the first line
-abbrev pub rules_line : House → List ℕ
+abbrev pub rules_line : Rules → List ℕ
 rules_line rules = house_words (codes "  rules   ") line_feed rules
 
 abbrev pub win_lines : WinExplanation → WinParts → List ℕ

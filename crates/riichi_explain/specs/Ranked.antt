@@ -1,5 +1,5 @@
 -- The readings of a win by what they are worth.
-use Rattle.std.specs.Prelude.{◌≡◌, ℕ, Bool, Option, None, Some, List, [], length, map, take, drop, All}
+use Rattle.std.specs.Prelude.{◌≡◌, ℕ, Bool, Option, None, Some, List, [], length, map, All}
 use Rattle.std.specs.List.Sorted.{IsPermutation, IsSortedBy}
 use Rattle.std.specs.Ordering.{is_gt, nat_cmp}
 use Rattle.std.specs.Cmp.Lexicographic.{slice_cmp}
@@ -10,7 +10,6 @@ use Rattle.riichi_score.specs.declared.score.Score.{Score}
 use Rattle.riichi_score.specs.Best.{rank}
 use Rattle.riichi_score.specs.Scores.{score_of, completed_hand}
 use Rattle.riichi_explain.specs.declared.ranked.RankedReading.{RankedReading}
-use Rattle.riichi_explain.specs.declared.ranked.Ranking.{Ranking}
 
 -- what readings are compared by: the numbers by which scores are, and none where there is no yaku
 abbrev pub rank_if : Option Score → List ℕ
@@ -25,11 +24,10 @@ is_worth_more score other = is_gt (slice_cmp nat_cmp (rank_if score) (rank_if ot
 abbrev pub AreInOrder : List RankedReading → Type 0
 AreInOrder ranked = IsSortedBy (λ one other. is_worth_more one.score other.score) ranked
 
--- Each reading of the hand stands there once with its score, the first twelve in the order of what they are worth, the others behind them.
-pub record AreRanked (win : WinParts) (ranking : Ranking) : Type 0 where
+-- Each reading of the hand stands there once with its score, in the order of what they are worth.
+pub record AreRanked (win : WinParts) (ranked : List RankedReading) : Type 0 where
   pub readings : List Reading
   pub are_all : AreTheReadings (completed_hand win) (length win.melds) win.winning readings
-  pub each_once : IsPermutation (take 12 readings) (map (λ one. one.reading) ranking.ranked.items)
-  pub rest_is : ranking.rest ≡ drop 12 readings
-  pub scored : All (λ one. one.score ≡ score_of one.reading win) ranking.ranked.items
-  pub in_order : AreInOrder ranking.ranked.items
+  pub each_once : IsPermutation readings (map (λ one. one.reading) ranked)
+  pub scored : All (λ one. one.score ≡ score_of one.reading win) ranked
+  pub in_order : AreInOrder ranked

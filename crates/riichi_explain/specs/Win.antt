@@ -2,7 +2,6 @@
 use Rattle.std.specs.Prelude.{◌≡◌, ◌+◌, ◌*◌, Bool, Option, Some, None, List, [], length, if◌then◌else◌}
 use Rattle.riichi_hand.specs.declared.win.WinParts.{WinParts}
 use Rattle.riichi_split.specs.declared.reading.Reading.{Reading}
-use Rattle.riichi_split.specs.Readings.{AreTheReadings}
 use Rattle.riichi_yaku.specs.YakuSets.{is_yakuman}
 use Rattle.riichi_score.specs.declared.answer.WinAnswer.{WinAnswer}
 use Rattle.riichi_score.specs.declared.answer.WinAnswer.TheVariants as answer
@@ -10,6 +9,8 @@ use Rattle.riichi_score.specs.Scores.{score_of, completed_hand, IsReadingOf}
 use Rattle.riichi_explain.specs.declared.dora.DoraRow.{DoraRow}
 use Rattle.riichi_explain.specs.declared.fu.FuRow.{FuRow}
 use Rattle.riichi_explain.specs.declared.win.WonHand.{WonHand}
+use Rattle.riichi_explain.specs.declared.ranked.RankedReading.{RankedReading}
+use Rattle.riichi_explain.specs.Ranked.{AreRanked}
 use Rattle.riichi_explain.specs.declared.win.WinExplanation.{WinExplanation}
 use Rattle.riichi_explain.specs.declared.win.WinExplanation.TheVariants.{Won, NoYaku, NoWin}
 use Rattle.riichi_explain.specs.Base.{base_rule, points_by}
@@ -47,8 +48,8 @@ pub record IsWonHand (win : WinParts) (hand : WonHand) : Type 0 where
   pub payers_add_up : pay_total hand.payers.items + 1000 * win.sticks ≡ hand.score.gain
 
 -- the readings of a hand, none of which has a yaku
-pub record HaveNoYaku (win : WinParts) (readings : List Reading) : Type 0 where
-  pub are_all : AreTheReadings (completed_hand win) (length win.melds) win.winning readings
+pub record HaveNoYaku (win : WinParts) (ranked : List RankedReading) : Type 0 where
+  pub are_all : AreRanked win ranked
   pub none_scores : (reading : Reading) → IsReadingOf win reading → score_of reading win ≡ None
 
 -- a hand without a reading: how far it is from each form, and the kinds that it waits for before the winning tile
@@ -59,17 +60,17 @@ pub record IsNoWin (win : WinParts) (missed : MissedWin) : Type 0 where
 
 abbrev pub Explains : WinParts → WinExplanation → Type 0
 Explains win (Won hand) = IsWonHand win hand
-Explains win (NoYaku readings) = HaveNoYaku win readings
+Explains win (NoYaku ranked) = HaveNoYaku win ranked.items
 Explains win (NoWin missed) = IsNoWin win missed
 
 -- the answer that is explained
 abbrev pub explained_answer : WinExplanation → WinAnswer
 explained_answer (Won hand) = answer.Won hand.score
-explained_answer (NoYaku readings) = answer.NoYaku
+explained_answer (NoYaku ranked) = answer.NoYaku
 explained_answer (NoWin missed) = answer.NoWin
 
 -- the reading that scores
 abbrev pub explained_reading : WinExplanation → Option Reading
 explained_reading (Won hand) = Some hand.reading
-explained_reading (NoYaku readings) = None
+explained_reading (NoYaku ranked) = None
 explained_reading (NoWin missed) = None

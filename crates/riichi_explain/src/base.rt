@@ -4,7 +4,7 @@ ghost use Rattle.riichi_yaku.specs.YakuSets.{is_yakuman};
 ghost use Rattle.riichi_score.specs.Limits.{limits_of};
 ghost use Rattle.riichi_explain.specs.Base as spec;
 
-use riichi_hand::{RuleSet, Switch, WinRecord};
+use riichi_hand::{Rules, Switch, WinRecord};
 use riichi_score::{Score, is_raised, product_of, yakuman_limits};
 use riichi_split::Reading;
 
@@ -48,7 +48,7 @@ pub fn base_rule(reading: &Reading, score: &Score, win: &WinRecord) -> BaseRule
     }
 }
 
-fn counted_rule(rules: RuleSet, han: u8, fu: u8) -> BaseRule
+fn counted_rule(rules: Rules, han: u8, fu: u8) -> BaseRule
     ensures value { result ≡ spec.counted_rule rules han fu }
 {
     match han {
@@ -62,7 +62,7 @@ fn counted_rule(rules: RuleSet, han: u8, fu: u8) -> BaseRule
 }
 
 /// What 13 han and more are.
-fn most_limit(rules: RuleSet) -> Limit
+fn most_limit(rules: Rules) -> Limit
     ensures { result ≡ spec.most_limit rules }
 {
     if rules.has(Switch::CountedYakuman) {
@@ -72,7 +72,7 @@ fn most_limit(rules: RuleSet) -> Limit
     }
 }
 
-fn low_rule(rules: RuleSet, han: u8, fu: u8) -> BaseRule
+fn low_rule(rules: Rules, han: u8, fu: u8) -> BaseRule
     requires { han ≤ 4 }
     ensures value { result ≡ spec.low_rule rules han fu }
 {

@@ -1,5 +1,5 @@
 //! The rows of a hand's dora.
-ghost use Rattle.std.specs.Prelude.{◌≡◌, ◌+◌, ◌≤◌, [], ◌++◌, length};
+ghost use Rattle.std.specs.Prelude.{◌≡◌, ◌+◌, ◌<◌, ◌≤◌, [], ◌++◌, length};
 ghost use Rattle.riichi_score.specs.Dora.{dora_of, red_dora};
 ghost use Rattle.riichi_explain.specs.Dora as spec;
 
@@ -39,8 +39,11 @@ impl Default for DoraRow {
     }
 }
 
+/// The most rows of dora: one of each part.
+pub const MOST_DORA_ROWS: usize = 3;
+
 /// Rows of dora, of those parts that there are.
-pub type DoraRows = ArrayVec<DoraRow, 3>;
+pub type DoraRows = ArrayVec<DoraRow, MOST_DORA_ROWS>;
 
 /// The rows of a win's dora. They add up to its dora.
 #[tactic(auto, using(crate::proofs::DoraLemmas::rows_give_dora))]
@@ -72,7 +75,7 @@ fn red_fives(win: &WinRecord) -> u32
 
 /// A row, where there is any.
 fn push_counted(rows: &mut DoraRows, part: DoraPart, han: u32)
-    requires { length rows.old.items ≤ 2 }
+    requires { length rows.old.items < MOST_DORA_ROWS }
     ensures items { rows.new.items ≡ rows.old.items ++ spec.dora_row_if part han }
     ensures most { length rows.new.items ≤ length rows.old.items + 1 }
 {
@@ -107,7 +110,7 @@ fn dora_by(indicators: &Counts, win: &WinRecord, kind: Kind) -> u32
 
 /// The sum of some rows.
 pub fn dora_total(rows: &[DoraRow]) -> u64
-    requires { length rows.now ≤ 3 }
+    requires { length rows.now ≤ MOST_DORA_ROWS }
     ensures { result ≡ spec.dora_total rows.now }
 {
     let mut sum = 0;

@@ -6,11 +6,20 @@ ghost use Rattle.riichi_shape.specs.EveryWinning.{shanten_of};
 ghost use Rattle.riichi_shape.specs.Forms.{least_of};
 ghost use Rattle.riichi_explain.specs.Forms as spec;
 
-use arrayvec::ArrayString;
+use crate::room::{REASONS_ROOM, ReasonsText};
 use riichi_hand::{ShapeRecord, WinRecord};
 use riichi_score::hand_of;
 use riichi_shape::{FormDistances, RowSource, form_distances};
-use riichi_text::push_number;
+use riichi_text::{MOST_U8, push_number};
+
+/// The bytes of the longest line of the shanten.
+pub const MOST_SHANTEN_LINE: usize = "  shanten ".len()
+    + 3 * (MOST_NAME + MOST_SHANTEN)
+    + "\n".len();
+
+const MOST_NAME: usize = ", thirteen orphans ".len();
+
+const MOST_SHANTEN: usize = MOST_U8;
 
 /// How far the tiles of a shape are from each form, by the rows of a source. The least of these, less one, is its shanten.
 #[tactic(auto, using(riichi_shape::proofs::ShapeFacts::melds_few, crate::proofs::FormLemmas::distances_of))]
@@ -32,10 +41,10 @@ pub(crate) fn win_forms<R: RowSource>(source: &mut R, win: &WinRecord) -> FormDi
 
 /// Writes the line of the shanten by each form.
 #[tactic(auto, unfolding(crate::specs::Forms::shanten_line))]
-pub fn push_shanten_line(text: &mut ArrayString<4608>, forms: &FormDistances)
-    requires { array_string_len text.old + 80 ≤ 4608 }
+pub fn push_shanten_line(text: &mut ReasonsText, forms: &FormDistances)
+    requires { array_string_len text.old + MOST_SHANTEN_LINE ≤ REASONS_ROOM }
     ensures bytes { text.new.bytes ≡ text.old.bytes ++ spec.shanten_line forms.now }
-    ensures len { array_string_len text.new ≤ array_string_len text.old + 80 }
+    ensures len { array_string_len text.new ≤ array_string_len text.old + MOST_SHANTEN_LINE }
 {
     text.push_str("  shanten ");
     push_form(text, "sets and a pair ", forms.sets_and_pair);
@@ -45,11 +54,12 @@ pub fn push_shanten_line(text: &mut ArrayString<4608>, forms: &FormDistances)
 }
 
 #[tactic(auto, unfolding(crate::specs::Forms::form_text))]
-fn push_form(text: &mut ArrayString<4608>, name: &str, lack: u8)
-    requires few { length name.now ≤ 19 }
-    requires room { array_string_len text.old + 22 ≤ 4608 }
+fn push_form(text: &mut ReasonsText, name: &str, lack: u8)
+    requires few { length name.now ≤ MOST_NAME }
+    requires room { array_string_len text.old + MOST_NAME + MOST_SHANTEN ≤ REASONS_ROOM }
     ensures bytes { text.new.bytes ≡ text.old.bytes ++ spec.form_text name.now lack }
-    ensures len { array_string_len text.new ≤ array_string_len text.old + length name.now + 3 }
+    ensures len { array_string_len text.new
+        ≤ array_string_len text.old + length name.now + MOST_SHANTEN }
 {
     text.push_str(name);
     push_shanten(text, lack);
@@ -57,11 +67,12 @@ fn push_form(text: &mut ArrayString<4608>, name: &str, lack: u8)
 
 /// A form that stands beside no meld.
 #[tactic(auto, unfolding(crate::specs::Forms::special_form_text))]
-fn push_other(text: &mut ArrayString<4608>, name: &str, lack: Option<u8>)
-    requires few { length name.now ≤ 19 }
-    requires room { array_string_len text.old + 22 ≤ 4608 }
+fn push_other(text: &mut ReasonsText, name: &str, lack: Option<u8>)
+    requires few { length name.now ≤ MOST_NAME }
+    requires room { array_string_len text.old + MOST_NAME + MOST_SHANTEN ≤ REASONS_ROOM }
     ensures bytes { text.new.bytes ≡ text.old.bytes ++ spec.special_form_text name.now lack }
-    ensures len { array_string_len text.new ≤ array_string_len text.old + length name.now + 3 }
+    ensures len { array_string_len text.new
+        ≤ array_string_len text.old + length name.now + MOST_SHANTEN }
 {
     if let Some(lack) = lack {
         push_form(text, name, lack);
@@ -70,10 +81,10 @@ fn push_other(text: &mut ArrayString<4608>, name: &str, lack: Option<u8>)
 
 /// One less than the tiles that are lacking.
 #[tactic(auto, unfolding(crate::specs::Forms::shanten_text))]
-fn push_shanten(text: &mut ArrayString<4608>, lack: u8)
-    requires { array_string_len text.old + 3 ≤ 4608 }
+fn push_shanten(text: &mut ReasonsText, lack: u8)
+    requires { array_string_len text.old + MOST_SHANTEN ≤ REASONS_ROOM }
     ensures bytes { text.new.bytes ≡ text.old.bytes ++ spec.shanten_text lack }
-    ensures len { array_string_len text.new ≤ array_string_len text.old + 3 }
+    ensures len { array_string_len text.new ≤ array_string_len text.old + MOST_SHANTEN }
 {
     if lack == 0 {
         text.push_str("-1");

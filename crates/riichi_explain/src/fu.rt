@@ -55,8 +55,16 @@ impl Default for FuRow {
     }
 }
 
-/// Rows of fu, in the order of the table. A hand has at most eleven.
-pub type FuRows = ArrayVec<FuRow, 24>;
+/// The rows of fu that there is room for: three of the whole hand, three of each block, two of the wait, and one of an open hand
+/// won by ron. A hand has at most eleven.
+pub const MOST_FU_ROWS: usize = MOST_PLAIN_ROWS + 1;
+
+const MOST_PLAIN_ROWS: usize = 3 + MOST_BLOCK_ROWS + 2;
+
+const MOST_BLOCK_ROWS: usize = 5 * 3;
+
+/// Rows of fu, in the order of the table.
+pub type FuRows = ArrayVec<FuRow, MOST_FU_ROWS>;
 
 /// The rows of a reading, whose sets and melds are four. Their sum is the fu before it is rounded.
 #[tactic(auto, using(crate::proofs::FuLemmas::rows_give_fu), unfolding(crate::specs::Fu::fu_rows))]
@@ -106,7 +114,7 @@ fn push_plain(rows: &mut FuRows, blocks: &Blocks, reading: &Reading, done: &Bloc
     requires empty { rows.old.items ≡ [] }
     requires few { length blocks.now ≤ 5 }
     ensures items { rows.new.items ≡ spec.plain_rows blocks.now reading.now done.now win.now }
-    ensures most { length rows.new.items ≤ 20 }
+    ensures most { length rows.new.items ≤ MOST_PLAIN_ROWS }
 {
     push_earned(rows, FuPart::Base, 20);
     push_earned(
@@ -121,7 +129,7 @@ fn push_plain(rows: &mut FuRows, blocks: &Blocks, reading: &Reading, done: &Bloc
 
 /// A row, where the part earns any fu.
 fn push_earned(rows: &mut FuRows, part: FuPart, fu: u8)
-    requires { length rows.old.items < 24 }
+    requires { length rows.old.items < MOST_FU_ROWS }
     ensures items { rows.new.items ≡ rows.old.items ++ spec.earned part fu }
     ensures most { length rows.new.items ≤ length rows.old.items + 1 }
 {
@@ -134,7 +142,7 @@ fn push_block_rows(rows: &mut FuRows, blocks: &Blocks, win: &WinRecord)
     requires few { length blocks.now ≤ 5 }
     requires room { length rows.old.items ≤ 3 }
     ensures items { rows.new.items ≡ rows.old.items ++ spec.block_rows win.now blocks.now }
-    ensures most { length rows.new.items ≤ length rows.old.items + 15 }
+    ensures most { length rows.new.items ≤ length rows.old.items + MOST_BLOCK_ROWS }
 {
     push_set_rows(rows, blocks, win);
     push_rows_of_pair(rows, blocks, win);
@@ -153,7 +161,7 @@ fn push_set_rows(rows: &mut FuRows, blocks: &Blocks, win: &WinRecord)
 }
 
 fn push_set_row(rows: &mut FuRows, block: &HandBlock, win: &WinRecord)
-    requires { length rows.old.items < 24 }
+    requires { length rows.old.items < MOST_FU_ROWS }
     ensures items { rows.new.items ≡ rows.old.items ++ spec.set_rows win.now block.now }
     ensures most { length rows.new.items ≤ length rows.old.items + 1 }
 {
@@ -182,7 +190,7 @@ fn push_rows_of_pair(rows: &mut FuRows, blocks: &Blocks, win: &WinRecord)
 }
 
 fn push_rows_if_pair(rows: &mut FuRows, block: &HandBlock, win: &WinRecord)
-    requires { length rows.old.items ≤ 18 }
+    requires { length rows.old.items + 2 < MOST_FU_ROWS }
     ensures items { rows.new.items ≡ rows.old.items ++ spec.rows_if_pair win.now block.now }
     ensures most { length rows.new.items ≤ length rows.old.items + 2 }
 {
@@ -195,7 +203,7 @@ fn push_rows_if_pair(rows: &mut FuRows, block: &HandBlock, win: &WinRecord)
 /// No kind is both a dragon and a wind.
 #[tactic(auto, using(crate::proofs::FuLemmas::wind_below))]
 fn push_pair_rows(rows: &mut FuRows, kind: Kind, win: &WinRecord)
-    requires { length rows.old.items ≤ 18 }
+    requires { length rows.old.items + 2 < MOST_FU_ROWS }
     ensures items { rows.new.items ≡ rows.old.items ++ spec.pair_rows win.now kind }
     ensures most { length rows.new.items ≤ length rows.old.items + 2 }
 {
@@ -217,7 +225,7 @@ fn push_pair_rows(rows: &mut FuRows, kind: Kind, win: &WinRecord)
 }
 
 fn push_wait_rows(rows: &mut FuRows, winning: Kind, done: &Block)
-    requires { length rows.old.items ≤ 18 }
+    requires { length rows.old.items + 2 < MOST_FU_ROWS }
     ensures items { rows.new.items ≡ rows.old.items ++ spec.wait_rows winning done.now }
     ensures most { length rows.new.items ≤ length rows.old.items + 2 }
 {
@@ -240,7 +248,7 @@ fn two_if(is_so: bool) -> u8
 
 /// The sum of some rows.
 pub fn fu_total(rows: &[FuRow]) -> u32
-    requires { length rows.now ≤ 24 }
+    requires { length rows.now ≤ MOST_FU_ROWS }
     ensures { result ≡ spec.fu_total rows.now }
 {
     let mut sum = 0;

@@ -41,8 +41,11 @@ impl Default for HanRow {
     }
 }
 
+/// The most rows of han: every yaku, and the dora.
+pub const MOST_HAN_ROWS: usize = Yaku::COUNT + 1;
+
 /// Rows of han: the yaku in the order of their table, then the dora.
-pub type HanRows = ArrayVec<HanRow, 43>;
+pub type HanRows = ArrayVec<HanRow, MOST_HAN_ROWS>;
 
 /// The rows of a win that has this set of yaku. Those of a counted hand add up to its han.
 #[tactic(auto, using(crate::proofs::HanLemmas::han_rows_facts), unfolding(crate::specs::Han::han_rows))]
@@ -75,7 +78,7 @@ fn push_yakuman_rows(rows: &mut HanRows, set: YakuSet)
 fn push_yaku_rows(rows: &mut HanRows, set: YakuSet, concealed: bool)
     requires { rows.old.items ≡ [] }
     ensures items { rows.new.items ≡ map (spec.yaku_row concealed) (yaku_in set) }
-    ensures most { length rows.new.items ≤ 42 }
+    ensures most { length rows.new.items ≤ Yaku.COUNT }
 {
     for yaku in set.iter() {
         let part = HanPart::Yaku(yaku);
@@ -85,7 +88,7 @@ fn push_yaku_rows(rows: &mut HanRows, set: YakuSet, concealed: bool)
 }
 
 fn push_dora_row(rows: &mut HanRows, win: &WinRecord)
-    requires { length rows.old.items ≤ 42 }
+    requires { length rows.old.items ≤ Yaku.COUNT }
     ensures { rows.new.items ≡ rows.old.items ++ spec.dora_row win.now }
 {
     push_counted(rows, HanPart::Dora, dora(win));
@@ -93,7 +96,7 @@ fn push_dora_row(rows: &mut HanRows, win: &WinRecord)
 
 /// A row, where there is any.
 fn push_counted(rows: &mut HanRows, part: HanPart, han: u8)
-    requires { length rows.old.items < 43 }
+    requires { length rows.old.items < MOST_HAN_ROWS }
     ensures items { rows.new.items ≡ rows.old.items ++ spec.counted_row part han }
     ensures most { length rows.new.items ≤ length rows.old.items + 1 }
 {

@@ -8,12 +8,19 @@ ghost use Rattle.riichi_explain.specs.Waits.{kind_waits};
 ghost use Rattle.riichi_explain.specs.Forms.{AreFormDistances};
 ghost use Rattle.riichi_explain.specs.Missed as spec;
 
-use crate::forms::{push_shanten_line, win_forms};
-use crate::waits::{KindWait, KindWaits, explain_waits};
-use arrayvec::{ArrayString, ArrayVec};
+use crate::forms::{MOST_SHANTEN_LINE, push_shanten_line, win_forms};
+use crate::room::{REASONS_ROOM, ReasonsText};
+use crate::waits::{KindWait, KindWaits, MOST_KIND_WAITS, explain_waits};
+use crate::waits_text::MOST_WAITS;
+use arrayvec::ArrayVec;
 use riichi_hand::{HandRecord, WinRecord};
 use riichi_shape::{FormDistances, RowSource};
 use riichi_text::push_list;
+
+/// The bytes of the longest lines of a hand that is no win.
+pub(crate) const MOST_MISSED: usize = MOST_SHANTEN_LINE + MOST_MISSED_WAITS;
+
+const MOST_MISSED_WAITS: usize = "  waits   ".len() + MOST_WAITS + "\n".len();
 
 /// A hand that has no reading.
 #[derive(Drop)]
@@ -49,8 +56,8 @@ fn waits_before(win: &WinRecord) -> KindWaits
 
 /// Writes the line of the shanten by each form, and below it the kinds that the hand waits for.
 #[tactic(auto, unfolding(crate::specs::Missed::missed_lines))]
-pub(crate) fn push_missed_lines(text: &mut ArrayString<4608>, missed: &MissedWin)
-    requires { array_string_len text.old + 4210 ≤ 4608 }
+pub(crate) fn push_missed_lines(text: &mut ReasonsText, missed: &MissedWin)
+    requires { array_string_len text.old + MOST_MISSED ≤ REASONS_ROOM }
     ensures { text.new.bytes ≡ text.old.bytes ++ spec.missed_lines missed.now }
 {
     push_shanten_line(text, &missed.forms);
@@ -58,9 +65,9 @@ pub(crate) fn push_missed_lines(text: &mut ArrayString<4608>, missed: &MissedWin
 }
 
 #[tactic(auto, unfolding(crate::specs::Missed::missed_waits))]
-fn push_missed_waits(text: &mut ArrayString<4608>, rows: &[KindWait])
-    requires few { length rows.now ≤ 34 }
-    requires room { array_string_len text.old + 4125 ≤ 4608 }
+fn push_missed_waits(text: &mut ReasonsText, rows: &[KindWait])
+    requires few { length rows.now ≤ MOST_KIND_WAITS }
+    requires room { array_string_len text.old + MOST_MISSED_WAITS ≤ REASONS_ROOM }
     ensures { text.new.bytes ≡ text.old.bytes ++ spec.missed_waits rows.now }
 {
     if !rows.is_empty() {

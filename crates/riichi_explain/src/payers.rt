@@ -1,5 +1,5 @@
 //! Who pays what.
-ghost use Rattle.std.specs.Prelude.{◌≡◌, ◌+◌, ◌≤◌, [], ◌∷◌, ◌++◌, length};
+ghost use Rattle.std.specs.Prelude.{◌≡◌, ◌+◌, ◌<◌, ◌≤◌, [], ◌∷◌, ◌++◌, length};
 ghost use Rattle.riichi_explain.specs.Payers as spec;
 
 use arrayvec::ArrayVec;
@@ -40,14 +40,17 @@ impl Default for PayRow {
     }
 }
 
+/// The most rows of who pays: the dealer and the others.
+pub const MOST_PAY_ROWS: usize = 2;
+
 /// The rows of all who pay: the dealer before the others.
-pub type PayRows = ArrayVec<PayRow, 2>;
+pub type PayRows = ArrayVec<PayRow, MOST_PAY_ROWS>;
 
 /// What is paid for a win of so many base points.
 pub fn pay_rows(base: u32, win: &WinRecord) -> PayRows
     requires { base ≤ 800000 }
     ensures value { result.items ≡ spec.pay_rows base win.now }
-    ensures most { length result.items ≤ 2 }
+    ensures most { length result.items ≤ MOST_PAY_ROWS }
 {
     let mut rows = ArrayVec::new();
     let dealer = win.seat().is_dealer();
@@ -87,7 +90,7 @@ fn push_tsumo(rows: &mut PayRows, base: u32, dealer: bool, counters: u8)
 }
 
 fn push_row(rows: &mut PayRows, payer: Payer, points: u32, counters: u32)
-    requires { length rows.old.items ≤ 1 }
+    requires { length rows.old.items < MOST_PAY_ROWS }
     ensures { rows.new.items ≡ rows.old.items ++ spec.row payer points counters ∷ [] }
 {
     rows.push(PayRow {

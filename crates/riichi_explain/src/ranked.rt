@@ -1,5 +1,5 @@
 //! The readings of a win by what they are worth.
-ghost use Rattle.std.specs.Prelude.{◌≡◌, ◌+◌, ◌<◌, ◌≤◌, ℕ, true, false, length, slice_index_or};
+ghost use Rattle.std.specs.Prelude.{◌≡◌, ◌+◌, ◌<◌, ◌≤◌, ℕ, true, false, All, length, slice_index_or};
 ghost use Rattle.std.specs.List.{insert};
 ghost use Rattle.riichi_score.specs.Best as best_spec;
 ghost use Rattle.riichi_score.specs.Fu.{HasFourSets};
@@ -12,8 +12,8 @@ use riichi_hand::WinRecord;
 use riichi_score::{Score, hand_of, score_of};
 use riichi_split::{Reading, Readings};
 
-/// The most readings that are ranked or shown. No hand has more than eight, as far as anyone knows.
-pub(crate) const MOST_READINGS: usize = 12;
+/// The most readings that a hand has.
+pub const MOST_READINGS: usize = 8;
 
 /// A reading of a hand, and its score where it has a yaku.
 #[derive(Clone, Copy)]
@@ -22,7 +22,6 @@ pub struct RankedReading {
     pub score: Option<Score>,
 }
 
-/// What fills the places of a list that no reading has taken.
 impl Default for RankedReading {
     ghost use Rattle.std.specs.Prelude.{None};
     ghost use Rattle.riichi_split.specs.declared.reading.Reading.TheVariants.{SevenPairs};
@@ -31,39 +30,33 @@ impl Default for RankedReading {
 
     fn default() -> Self {
         RankedReading {
-            reading: Reading::SevenPairs,
+            reading: Reading::default(),
             score: None,
         }
     }
 }
 
 /// The readings of a win, the best first.
-#[derive(Drop)]
-pub struct Ranking {
-    pub ranked: ArrayVec<RankedReading, MOST_READINGS>,
-    /// Those behind the first twelve that were found.
-    pub rest: Readings,
-}
+pub type Ranking = ArrayVec<RankedReading, MOST_READINGS>;
 
 /// Every reading of a win with its score, none worth more than the one before it.
 pub fn ranked_readings(win: &WinRecord) -> Ranking
-    ensures { spec.AreRanked win.now result }
+    ensures ranked { spec.AreRanked win.now result.items }
+    ensures sets { All (λ one. HasFourSets one.reading win.now) result.items }
 {
-    let mut rest = Readings::new(&hand_of(win), &win.melds(), win.winning());
+    let hand = hand_of(win);
     let mut ranked = ArrayVec::new();
-    for turn in 0..MOST_READINGS {
-        if let Some(reading) = rest.next() {
-            insert(&mut ranked, reading, win);
-        }
+    for reading in Readings::new(&hand, &win.melds(), win.winning()) {
+        insert(&mut ranked, reading, win);
     }
-    Ranking { ranked, rest }
+    ranked
 }
 
 /// Puts a reading behind those that are worth as much.
 #[tactic(auto, using(crate::proofs::RankLemmas::in_order_insert))]
-fn insert(ranked: &mut ArrayVec<RankedReading, MOST_READINGS>, reading: Reading, win: &WinRecord)
+fn insert(ranked: &mut Ranking, reading: Reading, win: &WinRecord)
     requires sets { HasFourSets reading win.now }
-    requires room { length ranked.old.items < 12 }
+    requires room { length ranked.old.items < MOST_READINGS }
     requires in_order { spec.AreInOrder ranked.old.items }
     ensures items { (place : ℕ) × (ranked.new.items ≡ insert ranked.old.items place
         (record { reading = reading; score = score_spec.score_of reading win.now })) }

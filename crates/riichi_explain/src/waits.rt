@@ -55,8 +55,11 @@ impl Default for KindWait {
     }
 }
 
+/// The most kinds that a hand may wait for: all.
+pub const MOST_KIND_WAITS: usize = 34;
+
 /// The kinds that a hand waits for, in their order.
-pub type KindWaits = ArrayVec<KindWait, 34>;
+pub type KindWaits = ArrayVec<KindWait, MOST_KIND_WAITS>;
 
 /// What a hand waits for, and why.
 #[derive(Drop)]
@@ -115,7 +118,7 @@ pub fn explain_waits(hand: &HandRecord) -> ExplainedWaits
 fn push_kind_wait(rows: &mut KindWaits, hand: &HandRecord, kinds: &KindSet, kind: Kind)
     requires kind { kind < 34 }
     requires kinds { kinds.now ≡ waits_of hand.now }
-    requires room { length rows.old.items ≤ 33 }
+    requires room { length rows.old.items < MOST_KIND_WAITS }
     ensures items { rows.new.items ≡ rows.old.items ++ spec.waits_at hand.now kind }
     ensures most { length rows.new.items ≤ length rows.old.items + 1 }
 {

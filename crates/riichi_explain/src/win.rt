@@ -11,11 +11,12 @@ use crate::fu::{FuRows, fu_rows};
 use crate::han::{HanRows, han_rows};
 use crate::missed::{MissedWin, missed_win};
 use crate::payers::{PayRows, pay_rows};
+use crate::ranked::{Ranking, ranked_readings};
 use arrayvec::ArrayVec;
 use riichi_hand::WinRecord;
-use riichi_score::{BestReading, Score, WinAnswer, best_reading, hand_of};
+use riichi_score::{BestReading, Score, WinAnswer, best_reading};
 use riichi_shape::RowSource;
-use riichi_split::{Reading, Readings};
+use riichi_split::Reading;
 
 /// A win that scores: a reading that has its score, and the rows that give it.
 #[derive(Drop)]
@@ -38,7 +39,7 @@ pub struct WonHand {
 pub enum WinExplanation {
     Won(WonHand),
     /// Every reading of the hand: none has a yaku.
-    NoYaku(Readings),
+    NoYaku(Ranking),
     /// The hand has no reading: how far it is from each form, and what it waits for.
     NoWin(MissedWin),
 }
@@ -76,10 +77,7 @@ pub fn explain_win<R: RowSource>(source: &mut R, win: &WinRecord) -> WinExplanat
 {
     match best_reading(win) {
         BestReading::Won { reading, score } => WinExplanation::Won(won_hand(win, reading, score)),
-        BestReading::NoYaku => {
-            let hand = hand_of(win);
-            WinExplanation::NoYaku(Readings::new(&hand, &win.melds(), win.winning()))
-        }
+        BestReading::NoYaku => WinExplanation::NoYaku(ranked_readings(win)),
         BestReading::NoWin => WinExplanation::NoWin(missed_win(source, win)),
     }
 }

@@ -6,11 +6,26 @@ use crate::dora::DoraPart;
 use crate::fu::FuPart;
 use crate::payers::Payer;
 
+/// The bytes of the longest words of dora.
+pub const MOST_DORA_WORDS: usize = "red fives".len();
+
+/// The bytes of the longest Japanese name of dora.
+pub const MOST_DORA_JAPANESE: usize = "ura".len();
+
+/// The bytes of the longest words of fu.
+pub const MOST_FU_WORDS: usize = "pair of the prevalent wind".len();
+
+/// The bytes of the longest Japanese name of fu.
+pub const MOST_FU_JAPANESE: usize = "menzen kafu".len();
+
+/// The bytes of the longest words of who pays.
+pub const MOST_PAYER: usize = "three others".len();
+
 /// Where dora come from, in words.
 #[tactic(auto, unfolding(crate::specs::Words::dora_words))]
 pub fn dora_words(part: DoraPart) -> &'static str
     ensures value { result.now ≡ spec.dora_words part }
-    ensures short { length result.now ≤ 9 }
+    ensures short { length result.now ≤ MOST_DORA_WORDS }
 {
     match part {
         DoraPart::Indicated => "indicated",
@@ -23,7 +38,7 @@ pub fn dora_words(part: DoraPart) -> &'static str
 #[tactic(auto, unfolding(crate::specs::Words::dora_japanese))]
 pub fn dora_japanese(part: DoraPart) -> &'static str
     ensures value { result.now ≡ spec.dora_japanese part }
-    ensures short { length result.now ≤ 3 }
+    ensures short { length result.now ≤ MOST_DORA_JAPANESE }
 {
     match part {
         DoraPart::Below => "ura",
@@ -35,7 +50,7 @@ pub fn dora_japanese(part: DoraPart) -> &'static str
 #[tactic(auto, unfolding(crate::specs::Words::fu_words))]
 pub fn fu_words(part: &FuPart) -> &'static str
     ensures value { result.now ≡ spec.fu_words part.now }
-    ensures short { length result.now ≤ 26 }
+    ensures short { length result.now ≤ MOST_FU_WORDS }
 {
     match *part {
         FuPart::Base => "base",
@@ -70,7 +85,7 @@ pub fn fu_words(part: &FuPart) -> &'static str
 #[tactic(auto, unfolding(crate::specs::Words::fu_japanese))]
 pub fn fu_japanese(part: &FuPart) -> &'static str
     ensures value { result.now ≡ spec.fu_japanese part.now }
-    ensures short { length result.now ≤ 11 }
+    ensures short { length result.now ≤ MOST_FU_JAPANESE }
 {
     match *part {
         FuPart::ConcealedRon => "menzen kafu",
@@ -88,7 +103,7 @@ pub fn fu_japanese(part: &FuPart) -> &'static str
 #[tactic(auto, unfolding(crate::specs::Words::payer_words))]
 pub fn payer_words(payer: Payer) -> &'static str
     ensures value { result.now ≡ spec.payer_words payer }
-    ensures short { length result.now ≤ 12 }
+    ensures short { length result.now ≤ MOST_PAYER }
 {
     match payer {
         Payer::Discarder => "discarder",

@@ -22,17 +22,22 @@ fn win_text(win: &WinRecord) -> ArrayString<4608> {
 }
 
 /// The lines of the readings beside the one that scores.
-fn others_text(job: &Job) -> ArrayString<4608> {
+fn others_text(job: &Job) -> ArrayString<8192> {
     match job {
         Job::Win(win) => others_of_win(win),
         _ => ArrayString::new(),
     }
 }
 
-fn others_of_win(win: &WinRecord) -> ArrayString<4608> {
+fn others_of_win(win: &WinRecord) -> ArrayString<8192> {
     let mut text = ArrayString::new();
+    let mut lines = ArrayString::new();
     if let Some(best) = explain_win(&mut FreshRows, win).reading() {
-        push_other_readings(&mut text, &best, win);
+        for one in ranked_readings(win).as_slice() {
+            lines.clear();
+            push_other_reading(&mut lines, &best, one, win);
+            let _ = text.try_push_str(lines.as_str());
+        }
     }
     text
 }

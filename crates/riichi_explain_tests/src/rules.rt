@@ -1,22 +1,22 @@
 use crate::explain::explains;
-use riichi_hand::{House, Rules, Switch};
+use riichi_hand::{Rules, Switch};
 use std::process::Abort;
 use std::test::Fail;
 
 /// The changes of the first profile, a line, and what is said of it.
 type Row = (&'static [(Switch, bool)], &'static str, &'static str);
 
-fn with_changes(changes: &[(Switch, bool)]) -> House {
-    let mut house = Rules::One.house();
+fn with_changes(changes: &[(Switch, bool)]) -> Rules {
+    let mut rules = Rules::One;
     for (switch, is_on) in changes {
-        house = house.with(*switch, *is_on);
+        rules = rules.with(*switch, *is_on);
     }
-    house
+    rules
 }
 
 fn explains_each(rt: &impl Abort, rows: &[Row]) -> Result<(), Fail> {
     for (changes, line, text) in rows {
-        let rules = Rules::House(with_changes(*changes));
+        let rules = with_changes(*changes);
         explains(rt, rules, &[(*line, *text)])?;
     }
     Ok(())

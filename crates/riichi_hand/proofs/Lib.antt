@@ -12,3 +12,5 @@ pub mod RangeLemmas
 pub mod RedLemmas
 pub mod RedFault
 pub mod ShortWords
+pub mod Switches
+pub mod RulesTexts

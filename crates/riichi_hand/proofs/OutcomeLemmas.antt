@@ -13,21 +13,20 @@ use Rattle.riichi_hand.specs.declared.fault.LineFault.TheVariants.{Line, Notatio
 use Rattle.riichi_hand.specs.declared.fault.TextName.{TextName}
 use Rattle.riichi_hand.specs.declared.fault.TextName.TheVariants as text
 use Rattle.riichi_hand.specs.declared.line.key.Key.TheVariants.{On, Dora, Ura, Seen, Open}
-use Rattle.riichi_hand.specs.declared.win.Rules.{Rules}
-use Rattle.riichi_hand.specs.declared.house.House.{House}
+use Rattle.riichi_hand.specs.Rules.{Rules, is_on}
 use Rattle.riichi_hand.specs.declared.win.WinParts.{WinParts}
 use Rattle.riichi_hand.specs.declared.job.Job.{Job}
 use Rattle.riichi_hand.specs.declared.job.Job.TheVariants as jobs
 use Rattle.riichi_hand.specs.declared.fault.LineCode.TheVariants.{H7, H8, H9}
 use Rattle.riichi_hand.specs.FaultTexts.{line_code_text}
 use Rattle.riichi_hand.specs.Faults.{coded, first_fault, fault_or, IsValueOrFirstFault}
-use Rattle.riichi_hand.specs.Rules.{house_of}
 use Rattle.riichi_hand.specs.Win.{no_reds, without_reds, kept_under, win_faults, win_of}
 use Rattle.riichi_hand.specs.Words.{words_of}
 use Rattle.riichi_hand.specs.Parts.{LineParts, parts_of, value}
 use Rattle.riichi_hand.specs.Texts.{texts_of, text_fault, melds_if_given}
 use Rattle.riichi_hand.specs.Jobs.{job_of}
 use Rattle.riichi_hand.specs.Lines.{is_no_record, text_faults, faults_of, faults_of_win, outcome_of}
+use Rattle.riichi_hand.specs.declared.switch.Switch.TheVariants.{RedFives}
 
 pub first_fault-later : (faults later : List (Option LineFault)) → first_fault faults ≡ None → first_fault (faults ++ later) ≡ first_fault later
 first_fault-later [] later none = refl
@@ -94,42 +93,42 @@ step_at Is (Some fault) faults x some is = some
 
 -- the outcome of a record line, whose words say this
 outcome_from : (rules : Rules) (line : List ℕ) (parts : LineParts) → length line ≤ 4096 → is_no_record line ≡ false → parts_of (words_of line) ≡ parts
-    → outcome_of rules line ≡ fault_or (first_fault (faults_of (house_of rules) line parts)) (job_of (house_of rules) parts (texts_of parts) parts.job)
+    → outcome_of rules line ≡ fault_or (first_fault (faults_of rules line parts)) (job_of rules parts (texts_of parts) parts.job)
 unfolding outcome_of
 outcome_from rules line parts short some are = rw (le-ltb 4096 (length line) short, some)
-    (ap (λ (p : LineParts). fault_or (first_fault (faults_of (house_of rules) line p)) (job_of (house_of rules) p (texts_of p) p.job)) are)
+    (ap (λ (p : LineParts). fault_or (first_fault (faults_of rules line p)) (job_of rules p (texts_of p) p.job)) are)
 
 pub outcome-err : (rules : Rules) (line : List ℕ) (parts : LineParts) (fault : LineFault) → length line ≤ 4096 → is_no_record line ≡ false → parts_of (words_of line) ≡ parts
-    → first_fault (faults_of (house_of rules) line parts) ≡ Some fault → outcome_of rules line ≡ Err fault
+    → first_fault (faults_of rules line parts) ≡ Some fault → outcome_of rules line ≡ Err fault
 outcome-err rules line parts fault short some are is =
-    outcome_from rules line parts short some are ∙ ap (λ first. fault_or first (job_of (house_of rules) parts (texts_of parts) parts.job)) is
+    outcome_from rules line parts short some are ∙ ap (λ first. fault_or first (job_of rules parts (texts_of parts) parts.job)) is
 
 pub outcome-ok : (rules : Rules) (line : List ℕ) (parts : LineParts) (job : Job) → length line ≤ 4096 → is_no_record line ≡ false → parts_of (words_of line) ≡ parts
-    → first_fault (faults_of (house_of rules) line parts) ≡ None → Some job ≡ job_of (house_of rules) parts (texts_of parts) parts.job → Ok (Some job) ≡ outcome_of rules line
+    → first_fault (faults_of rules line parts) ≡ None → Some job ≡ job_of rules parts (texts_of parts) parts.job → Ok (Some job) ≡ outcome_of rules line
 outcome-ok rules line parts job short some are none is =
-    let read : Ok (Some job) ≡ fault_or None (job_of (house_of rules) parts (texts_of parts) parts.job) = ap Ok is in
-    read ∙ sym (outcome_from rules line parts short some are ∙ ap (λ first. fault_or first (job_of (house_of rules) parts (texts_of parts) parts.job)) none)
+    let read : Ok (Some job) ≡ fault_or None (job_of rules parts (texts_of parts) parts.job) = ap Ok is in
+    read ∙ sym (outcome_from rules line parts short some are ∙ ap (λ first. fault_or first (job_of rules parts (texts_of parts) parts.job)) none)
 
 -- the parts with the red fives that the rules keep
 kept_if : (keeps : Bool) (win : WinParts) (kept : List ℕ) → kept ≡ (if keeps then win.reds else no_reds) → record win { reds = kept } ≡ (if keeps then win else without_reds win)
 kept_if true win kept is = rw is refl
 kept_if false win kept is = rw is refl
 
-pub kept_parts : (rules : House) (win : WinParts) (kept : List ℕ) → kept ≡ (if rules.red_fives then win.reds else no_reds) → record win { reds = kept } ≡ kept_under rules win
-kept_parts rules win kept is = kept_if rules.red_fives win kept is
+pub kept_parts : (rules : Rules) (win : WinParts) (kept : List ℕ) → kept ≡ (if is_on RedFives rules then win.reds else no_reds) → record win { reds = kept } ≡ kept_under rules win
+kept_parts rules win kept is = kept_if (is_on RedFives rules) win kept is
 
 -- these have the faults of the parts
-win_if : (keeps : Bool) (win : WinParts) → win.rules.red_fives ≡ keeps
+win_if : (keeps : Bool) (win : WinParts) → is_on RedFives win.rules ≡ keeps
     → win_of (if keeps then win else without_reds win) ≡ fault_or (first_fault (win_faults win)) (if keeps then win else without_reds win)
 unfolding win_of
 win_if true win is = rw is refl
 win_if false win is = rw is refl
 
-pub win_of_kept : (rules : House) (win : WinParts) → win.rules ≡ rules → win_of (kept_under rules win) ≡ fault_or (first_fault (win_faults win)) (kept_under rules win)
-win_of_kept rules win is = win_if rules.red_fives win (ap (λ r. r.red_fives) is)
+pub win_of_kept : (rules : Rules) (win : WinParts) → win.rules ≡ rules → win_of (kept_under rules win) ≡ fault_or (first_fault (win_faults win)) (kept_under rules win)
+win_of_kept rules win is = win_if (is_on RedFives rules) win (ap (is_on RedFives) is)
 
 -- the step of a win that has one winning tile and its keys
-pub win_step : (only : Option ℕ) (line : Option WinParts) (rules : House) (winning : ℕ) (win : WinParts) (result : Result WinParts LineFault) → only ≡ Some winning → line ≡ Some win
+pub win_step : (only : Option ℕ) (line : Option WinParts) (rules : Rules) (winning : ℕ) (win : WinParts) (result : Result WinParts LineFault) → only ≡ Some winning → line ≡ Some win
     → result ≡ fault_or (first_fault (win_faults win)) (kept_under rules win)
     → IsValueOrFirstFault result (coded H8 (not (is_some only)) ∷ faults_of_win line) (λ won. Some (jobs.Win won) ≡ option_map (λ won. jobs.Win (kept_under rules won)) line)
 win_step only line rules winning win result one some is =

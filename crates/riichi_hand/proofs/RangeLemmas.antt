@@ -14,9 +14,7 @@ use Rattle.riichi_hand.specs.declared.line.job_name.JobName.TheVariants.{Win, Wa
 use Rattle.riichi_hand.specs.declared.line.key.Key.{Key}
 use Rattle.riichi_hand.specs.declared.line.key.Key.TheVariants.{Riichi, Counters, Sticks}
 use Rattle.riichi_hand.specs.declared.line.texts.Texts.{Texts}
-use Rattle.riichi_hand.specs.declared.win.Rules.{Rules}
-use Rattle.riichi_hand.specs.declared.house.House.{House}
-use Rattle.riichi_hand.specs.Rules.{house_of}
+use Rattle.riichi_hand.specs.Rules.{Rules}
 use Rattle.riichi_hand.specs.declared.win.WinParts.{WinParts}
 use Rattle.riichi_hand.specs.Faults.{coded, first_fault, fault_or}
 use Rattle.riichi_hand.specs.Values.{riichi_of, number_of}
@@ -107,7 +105,7 @@ win_not false None range is = cc
 win_not false (Some win) range is =
     let none : None ≡ Some (Line H4) = after_others H4 ((H8, _) ∷ (H9, _) ∷ (H10, _) ∷ (H11, _) ∷ (H12, _) ∷ (H13, _) ∷ (H14, _) ∷ (H15, _) ∷ (H16, _) ∷ []) [] refl (rw (range win refl) at is) in cc
 
-made_in_range : (rules : House) (parts : LineParts) (texts : Texts) (only : Option ℕ) (keys : Option WinKeys) (win : WinParts) → unwrap_or (value Riichi parts) 0 ≤ 2 → unwrap_or (value Counters parts) 0 ≤ 99
+made_in_range : (rules : Rules) (parts : LineParts) (texts : Texts) (only : Option ℕ) (keys : Option WinKeys) (win : WinParts) → unwrap_or (value Riichi parts) 0 ≤ 2 → unwrap_or (value Counters parts) 0 ≤ 99
     → unwrap_or (value Sticks parts) 0 ≤ 99 → and_then only (λ winning. option_map (win_parts rules parts texts winning) keys) ≡ Some win → is_out_of_range win ≡ false
 made_in_range rules parts texts None keys win riichi counters sticks is = absurd (cc)
 made_in_range rules parts texts (Some winning) None win riichi counters sticks is = absurd (cc)
@@ -115,7 +113,7 @@ made_in_range rules parts texts (Some winning) (Some keys) win riichi counters s
     let made : win_parts rules parts texts winning keys ≡ win = cc in
     ap is_out_of_range (sym made) ∙ rw (le-ltb 2 (unwrap_or (value Riichi parts) 0) riichi, le-ltb 99 (unwrap_or (value Counters parts) 0) counters, le-ltb 99 (unwrap_or (value Sticks parts) 0) sticks) refl
 
-job_not : (rules : House) (job : JobName) (hand : List ℕ) (words : List (List ℕ)) (texts : Texts) (asked : JobName) → first_fault (job_faults rules (line_parts job hand words) texts asked) ≡ Some (Line H4) → ⊥
+job_not : (rules : Rules) (job : JobName) (hand : List ℕ) (words : List (List ℕ)) (texts : Texts) (asked : JobName) → first_fault (job_faults rules (line_parts job hand words) texts asked) ≡ Some (Line H4) → ⊥
 job_not rules job hand words texts Win is =
     let parts = line_parts job hand words in
     let range = in_range job words in
@@ -136,16 +134,16 @@ bad_word rules line is =
       | inr short ↦ elim (cases_Bool (is_no_record line)) [
         | inl none ↦ absurd (let e : Ok None ≡ Err (Line H4) = rw (short, none) at is in cc)
         | inr some ↦
-            let e : fault_or (first_fault (faults_of (house_of rules) line parts)) (job_of (house_of rules) parts (texts_of parts) parts.job) ≡ Err (Line H4) = rw (short, some) at is in
-            let first = first_of_err (first_fault (faults_of (house_of rules) line parts)) (job_of (house_of rules) parts (texts_of parts) parts.job) (Line H4) (sym e) in
-            let jobs = job_faults (house_of rules) parts (texts_of parts) parts.job in
+            let e : fault_or (first_fault (faults_of rules line parts)) (job_of rules parts (texts_of parts) parts.job) ≡ Err (Line H4) = rw (short, some) at is in
+            let first = first_of_err (first_fault (faults_of rules line parts)) (job_of rules parts (texts_of parts) parts.job) (Line H4) (sym e) in
+            let jobs = job_faults rules parts (texts_of parts) parts.job in
             let texts = text_faults parts ++ jobs in
             let entries = after_others H4 ((H1, _) ∷ (H2, _) ∷ (H3, _) ∷ []) (entry_faults parts ++ (need_faults parts ++ texts)) refl first in
             elim (front parts.entries.has_bad_word (coded H5 parts.entries.has_doubled_key ∷ need_faults parts ++ texts) entries) [
               | inl bad ↦ bad
               | inr later ↦
                   let melds = after_texts H4 parts jobs (after_others H4 ((H5, _) ∷ (H6, _) ∷ []) texts refl later) in
-                  absurd (job_not (house_of rules) job hand (drop 2 words) (texts_of parts) parts.job (after_others H4 ((H7, _) ∷ []) jobs refl melds))
+                  absurd (job_not rules job hand (drop 2 words) (texts_of parts) parts.job (after_others H4 ((H7, _) ∷ []) jobs refl melds))
             ]
       ]
     ]

@@ -9,11 +9,9 @@ use Rattle.riichi_hand.specs.declared.line.needed.WinKeys.{WinKeys}
 use Rattle.riichi_hand.specs.declared.line.job_name.JobName.{JobName}
 use Rattle.riichi_hand.specs.declared.line.job_name.JobName.TheVariants.{Win, Waits, Shape}
 use Rattle.riichi_hand.specs.declared.line.key.Key.TheVariants.{Open}
-use Rattle.riichi_hand.specs.declared.win.Rules.{Rules}
-use Rattle.riichi_hand.specs.declared.house.House.{House}
+use Rattle.riichi_hand.specs.Rules.{Rules, is_on}
 use Rattle.riichi_hand.specs.declared.win.WinParts.{WinParts}
 use Rattle.riichi_hand.specs.Faults.{coded, first_fault, fault_or}
-use Rattle.riichi_hand.specs.Rules.{house_of}
 use Rattle.riichi_hand.specs.Win.{has_too_many_reds, win_faults}
 use Rattle.riichi_hand.specs.Words.{words_of}
 use Rattle.riichi_hand.specs.Parts.{LineParts, parts_of, value}
@@ -22,6 +20,7 @@ use Rattle.riichi_hand.specs.Jobs.{and_then, win_keys, win_parts, job_of}
 use Rattle.riichi_hand.specs.Lines.{text_faults, faults_of_win, job_faults, faults_of, outcome_of, is_no_record}
 use Rattle.riichi_hand.proofs.OutcomeLemmas.{after_others, after_texts, first_of_err, size_or_copies}
 use Rattle.riichi_hand.proofs.RedLemmas.{line_has_room}
+use Rattle.riichi_hand.specs.declared.switch.Switch.TheVariants.{RedFives}
 
 -- Where H16 is the first fault, the melds are spelled.
 after_melds : (spelled : Bool) (faults : List (Option LineFault)) → first_fault (coded H7 (not spelled) ∷ faults) ≡ Some (Line H16) → (spelled ≡ true) × (first_fault faults ≡ Some (Line H16))
@@ -30,18 +29,18 @@ after_melds false faults is = absurd (cc)
 
 win_not : (win : WinParts) → has_too_many_reds win ≡ false → first_fault (win_faults win) ≡ Some (Line H16) → ⊥
 win_not win few is =
-    let keeps = win.rules.red_fives in
+    let keeps = is_on RedFives win.rules in
     let reds = keeps && has_too_many_reds win in
     let last = after_others H16 ((H4, _) ∷ (H8, _) ∷ (H9, _) ∷ (H10, _) ∷ (H11, _) ∷ (H12, _) ∷ (H13, _) ∷ (H14, _) ∷ (H15, _) ∷ []) (coded H16 reds ∷ []) refl is in
     let none : None ≡ Some (Line H16) = rw (and_right keeps (has_too_many_reds win) few) at last in cc
 
-win_told : (rules : House) (parts : LineParts) (only : Option ℕ) (keys : Option WinKeys) → is_some (melds_if_given (value Open parts)) ≡ true → only_kind (texts_of parts).on ≡ only
+win_told : (rules : Rules) (parts : LineParts) (only : Option ℕ) (keys : Option WinKeys) → is_some (melds_if_given (value Open parts)) ≡ true → only_kind (texts_of parts).on ≡ only
     → first_fault (coded H8 (not (is_some only)) ∷ faults_of_win (and_then only (λ winning. option_map (win_parts rules parts (texts_of parts) winning) keys))) ≡ Some (Line H16) → ⊥
 win_told rules parts None keys some one is = cc
 win_told rules parts (Some winning) None some one is = cc
 win_told rules parts (Some winning) (Some keys) some one is = win_not (win_parts rules parts (texts_of parts) winning keys) (line_has_room rules parts winning keys one some) is
 
-job_not : (rules : House) (parts : LineParts) (asked : JobName) → is_some (melds_if_given (value Open parts)) ≡ true → first_fault (job_faults rules parts (texts_of parts) asked) ≡ Some (Line H16) → ⊥
+job_not : (rules : Rules) (parts : LineParts) (asked : JobName) → is_some (melds_if_given (value Open parts)) ≡ true → first_fault (job_faults rules parts (texts_of parts) asked) ≡ Some (Line H16) → ⊥
 job_not rules parts Win some is = win_told rules parts (only_kind (texts_of parts).on) (win_keys parts) some refl is
 job_not rules parts Waits some is = size_or_copies H16 _ _ refl is
 job_not rules parts Shape some is = size_or_copies H16 _ _ refl is
@@ -56,11 +55,11 @@ no_reds_over rules line is =
       | inr short ↦ elim (cases_Bool (is_no_record line)) [
         | inl none ↦ (let e : Ok None ≡ Err (Line H16) = rw (short, none) at is in absurd (cc))
         | inr some ↦
-            (let e : fault_or (first_fault (faults_of (house_of rules) line parts)) (job_of (house_of rules) parts (texts_of parts) parts.job) ≡ Err (Line H16) = rw (short, some) at is in
-            let first = first_of_err (first_fault (faults_of (house_of rules) line parts)) (job_of (house_of rules) parts (texts_of parts) parts.job) (Line H16) (sym e) in
-            let jobs = job_faults (house_of rules) parts (texts_of parts) parts.job in
+            (let e : fault_or (first_fault (faults_of rules line parts)) (job_of rules parts (texts_of parts) parts.job) ≡ Err (Line H16) = rw (short, some) at is in
+            let first = first_of_err (first_fault (faults_of rules line parts)) (job_of rules parts (texts_of parts) parts.job) (Line H16) (sym e) in
+            let jobs = job_faults rules parts (texts_of parts) parts.job in
             let texts = after_others H16 ((H1, _) ∷ (H2, _) ∷ (H3, _) ∷ (H4, _) ∷ (H5, _) ∷ (H6, _) ∷ []) (text_faults parts ++ jobs) refl first in
             let later = after_melds (is_some (melds_if_given (value Open parts))) jobs (after_texts H16 parts jobs texts) in
-            job_not (house_of rules) parts parts.job later.0 later.1)
+            job_not rules parts parts.job later.0 later.1)
       ]
     ]

@@ -14,7 +14,7 @@ use Rattle.riichi_tiles.proofs.MeldText.{find_passes}
 use Rattle.riichi_tiles.proofs.ReadZeros.{zeros_counted, zeros_meld}
 use Rattle.riichi_hand.specs.Words.{items_of}
 use Rattle.riichi_hand.specs.Values.{is_spelled, melds_of}
-use Rattle.riichi_hand.specs.declared.house.House.{House}
+use Rattle.riichi_hand.specs.Rules.{Rules, is_on}
 use Rattle.riichi_hand.specs.declared.win.WinParts.{WinParts}
 use Rattle.riichi_hand.specs.declared.line.needed.WinKeys.{WinKeys}
 use Rattle.riichi_hand.specs.declared.line.key.Key.TheVariants.{On, Dora, Ura, Seen, Open}
@@ -29,6 +29,7 @@ use Rattle.riichi_hand.specs.Jobs.{win_parts}
 use Rattle.riichi_hand.specs.Lines.{text_faults}
 use Rattle.riichi_hand.specs.declared.line.texts.Texts.{Texts}
 use Rattle.riichi_hand.proofs.OutcomeLemmas.{kept_parts, win_of_kept}
+use Rattle.riichi_hand.specs.declared.switch.Switch.TheVariants.{RedFives}
 
 -- a letter of a suit that has a five, and the kind of this five
 pub record IsOfFives (letter kind : ℕ) : Type 0 where
@@ -148,7 +149,7 @@ open_few letter kind (Some text) five some = melds_few letter kind text five som
 
 -- The red fives of a win, among hand, melds and the winning tile.
 
-zeros_held : (rules : House) (parts : LineParts) (winning : ℕ) (keys : WinKeys) (letter kind : ℕ) → IsOfFives letter kind → only_kind (texts_of parts).on ≡ Some winning
+zeros_held : (rules : Rules) (parts : LineParts) (winning : ℕ) (keys : WinKeys) (letter kind : ℕ) → IsOfFives letter kind → only_kind (texts_of parts).on ≡ Some winning
     → is_some (melds_if_given (value Open parts)) ≡ true → zeros_in parts letter ≤ copies_won (win_parts rules parts (texts_of parts) winning keys) kind
 zeros_held rules parts winning keys letter kind five only some =
     let hand = zeros_counted letter parts.hand five.suit five.has (omega (arith, five.kind_is, five.near)) in
@@ -170,7 +171,7 @@ not_too_many win room = rw (
   le-ltb (copies_won win 22) (slice_index win.reds 2) room.bamboos,
 ) refl
 
-room_of_line : (rules : House) (parts : LineParts) (winning : ℕ) (keys : WinKeys) → only_kind (texts_of parts).on ≡ Some winning → is_some (melds_if_given (value Open parts)) ≡ true
+room_of_line : (rules : Rules) (parts : LineParts) (winning : ℕ) (keys : WinKeys) → only_kind (texts_of parts).on ≡ Some winning → is_some (melds_if_given (value Open parts)) ≡ true
     → HasRoom (win_parts rules parts (texts_of parts) winning keys) (reds parts)
 room_of_line rules parts winning keys only some = record {
   characters = zeros_held rules parts winning keys 109 4 (record { suit = refl; has = refl; kind_is = refl; near = omega arith }) only some;
@@ -206,7 +207,7 @@ five_copies_first true b later others one other = refl
 five_copies_first false true later others one other = refl
 five_copies_first false false later others one other = refl
 
-win_of_cut : (win : WinParts) (cut : List ℕ) → win.rules.red_fives ≡ true → (has_five_in win ≡ false → cut ≡ win.reds) → win_of (record win { reds = cut }) ≡ fault_or (first_fault (win_faults win)) win
+win_of_cut : (win : WinParts) (cut : List ℕ) → is_on RedFives win.rules ≡ true → (has_five_in win ≡ false → cut ≡ win.reds) → win_of (record win { reds = cut }) ≡ fault_or (first_fault (win_faults win)) win
 unfolding win_of
 win_of_cut win cut keeps same =
     let given : WinParts = record win { reds = cut } in
@@ -233,7 +234,7 @@ melds_spelled parts none =
     (text_fault text.Seen (value Seen parts)) (is_some (melds_if_given (value Open parts))) none
 
 -- where there are no five copies of a kind, no red five is over
-joined_where_few : (rules : House) (parts : LineParts) (winning : ℕ) (keys : WinKeys) → only_kind (texts_of parts).on ≡ Some winning
+joined_where_few : (rules : Rules) (parts : LineParts) (winning : ℕ) (keys : WinKeys) → only_kind (texts_of parts).on ≡ Some winning
     → is_some (melds_if_given (value Open parts)) ≡ true → has_five_in (win_parts rules parts (texts_of parts) winning keys) ≡ false → joined_reds parts ≡ reds parts
 joined_where_few rules parts winning keys only some none =
     let win = win_parts rules parts (texts_of parts) winning keys in
@@ -250,13 +251,13 @@ joined_where_few rules parts winning keys only some none =
       plain 115 22 (omega arith) room.bamboos,
     ) refl
 
-win_of_line_here : (rules : House) (parts : LineParts) (winning : ℕ) (keys : WinKeys) (kept : List ℕ) → only_kind (texts_of parts).on ≡ Some winning
-    → is_some (melds_if_given (value Open parts)) ≡ true → kept ≡ (if rules.red_fives then joined_reds parts else no_reds)
+win_of_line_here : (rules : Rules) (parts : LineParts) (winning : ℕ) (keys : WinKeys) (kept : List ℕ) → only_kind (texts_of parts).on ≡ Some winning
+    → is_some (melds_if_given (value Open parts)) ≡ true → kept ≡ (if is_on RedFives rules then joined_reds parts else no_reds)
     → win_of (record (win_parts rules parts (texts_of parts) winning keys) { reds = kept })
     ≡ fault_or (first_fault (win_faults (win_parts rules parts (texts_of parts) winning keys))) (kept_under rules (win_parts rules parts (texts_of parts) winning keys))
 win_of_line_here rules parts winning keys kept only some is =
     let win = win_parts rules parts (texts_of parts) winning keys in
-    elim (cases_Bool rules.red_fives) [
+    elim (cases_Bool (is_on RedFives rules)) [
       | inl keeps ↦
           let is_joined : kept ≡ joined_reds parts = rw keeps at is in
           let cut = win_of_cut win (joined_reds parts) keeps (joined_where_few rules parts winning keys only some) in
@@ -268,8 +269,8 @@ win_of_line_here rules parts winning keys kept only some is =
     ]
 
 -- the same of texts that are those of the line
-pub win_of_line_reds : (rules : House) (parts : LineParts) (texts : Texts) (winning : ℕ) (keys : WinKeys) (kept : List ℕ) → texts ≡ texts_of parts → only_kind texts.on ≡ Some winning
-    → first_fault (text_faults parts) ≡ None → kept ≡ (if rules.red_fives then joined_reds parts else no_reds)
+pub win_of_line_reds : (rules : Rules) (parts : LineParts) (texts : Texts) (winning : ℕ) (keys : WinKeys) (kept : List ℕ) → texts ≡ texts_of parts → only_kind texts.on ≡ Some winning
+    → first_fault (text_faults parts) ≡ None → kept ≡ (if is_on RedFives rules then joined_reds parts else no_reds)
     → win_of (record (win_parts rules parts texts winning keys) { reds = kept })
     ≡ fault_or (first_fault (win_faults (win_parts rules parts texts winning keys))) (kept_under rules (win_parts rules parts texts winning keys))
 win_of_line_reds rules parts texts winning keys kept are only none is =
@@ -279,6 +280,6 @@ win_of_line_reds rules parts texts winning keys kept are only none is =
     subst P (sym are) here only
 
 -- the red fives of a line are never too many
-pub line_has_room : (rules : House) (parts : LineParts) (winning : ℕ) (keys : WinKeys) → only_kind (texts_of parts).on ≡ Some winning → is_some (melds_if_given (value Open parts)) ≡ true
+pub line_has_room : (rules : Rules) (parts : LineParts) (winning : ℕ) (keys : WinKeys) → only_kind (texts_of parts).on ≡ Some winning → is_some (melds_if_given (value Open parts)) ≡ true
     → has_too_many_reds (win_parts rules parts (texts_of parts) winning keys) ≡ false
 line_has_room rules parts winning keys only some = not_too_many (win_parts rules parts (texts_of parts) winning keys) (room_of_line rules parts winning keys only some)

@@ -13,7 +13,7 @@ use Rattle.riichi_hand.specs.contracts.win.FlagsPartialEq.TheImpl.{ghosts as fla
 use Rattle.riichi_hand.specs.contracts.win.WinPartsPartialEq.TheImpl.{ghosts as parts}
 use Rattle.riichi_hand.specs.contracts.decided.WindDecided.TheImpl.Laws.{decides-law as wind}
 use Rattle.riichi_hand.specs.contracts.decided.ByDecided.TheImpl.Laws.{decides-law as by}
-use Rattle.riichi_hand.specs.contracts.decided.RuleSetDecided.TheImpl.Laws.{decides-law as rules}
+use Rattle.riichi_hand.specs.contracts.decided.RulesDecided.TheImpl.Laws.{decides-law as rules}
 
 pub flags_decide : (a b : Flags) → Decides (flags.eq a b) (a ≡ b)
 flags_decide a b =

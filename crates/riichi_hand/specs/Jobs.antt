@@ -1,6 +1,6 @@
 -- The job of a line, with the defaults of the keys that may be missing.
 use Rattle.std.specs.Prelude.{◌≡◌, ℕ, Option, None, Some, option_map, unwrap_or}
-use Rattle.riichi_hand.specs.declared.house.House.{House}
+use Rattle.riichi_hand.specs.Rules.{Rules}
 use Rattle.riichi_hand.specs.declared.win.WinParts.{WinParts}
 use Rattle.riichi_hand.specs.declared.job.Job.{Job}
 use Rattle.riichi_hand.specs.declared.job.Job.TheVariants as jobs
@@ -32,7 +32,7 @@ AreNeeded (needs.Win keys) parts = (parts.job ≡ Win) × (win_keys parts ≡ So
 AreNeeded needs.Waits parts = parts.job ≡ Waits
 AreNeeded needs.Shape parts = parts.job ≡ Shape
 
-abbrev pub win_parts : House → LineParts → Texts → ℕ → WinKeys → WinParts
+abbrev pub win_parts : Rules → LineParts → Texts → ℕ → WinKeys → WinParts
 win_parts rules parts texts winning keys = record {
   rules = rules;
   concealed = texts.hand;
@@ -51,7 +51,7 @@ win_parts rules parts texts winning keys = record {
 }
 
 -- the win of a line, where it has one winning tile and the keys that a win must have
-abbrev pub win_of_line : House → LineParts → Texts → Option WinParts
+abbrev pub win_of_line : Rules → LineParts → Texts → Option WinParts
 win_of_line rules parts texts =
     and_then (only_kind texts.on) (λ winning. option_map (win_parts rules parts texts winning) (win_keys parts))
 
@@ -61,7 +61,7 @@ hand_of_line texts = record { concealed = texts.hand; melds = texts.melds }
 abbrev pub shape_of_line : Texts → ShapeParts
 shape_of_line texts = record { tiles = texts.hand; melds = texts.melds; seen = texts.seen }
 
-abbrev pub job_of : House → LineParts → Texts → JobName → Option Job
+abbrev pub job_of : Rules → LineParts → Texts → JobName → Option Job
 job_of rules parts texts Win = option_map (λ won. jobs.Win (kept_under rules won)) (win_of_line rules parts texts)
 job_of rules parts texts Waits = Some (jobs.Waits (hand_of_line texts))
 job_of rules parts texts Shape = Some (jobs.Shape (shape_of_line texts))

@@ -3,7 +3,6 @@ pub mod Faults
 pub mod FaultTexts
 pub mod Hand
 pub mod Rules
-pub mod RuleSets
 pub mod Win
 pub mod Words
 pub mod Values
@@ -13,7 +12,7 @@ pub mod Parts
 pub mod Texts
 pub mod Jobs
 pub mod Lines
-pub mod Houses
 pub mod RulesWords
+pub mod RulesText
 pub mod Equality
 pub mod Places

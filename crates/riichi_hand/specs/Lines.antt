@@ -5,9 +5,7 @@ use Rattle.riichi_hand.specs.declared.fault.LineCode.TheVariants.{H1, H2, H3, H4
 use Rattle.riichi_hand.specs.declared.fault.LineFault.{LineFault}
 use Rattle.riichi_hand.specs.declared.fault.LineFault.TheVariants.{Line}
 use Rattle.riichi_hand.specs.declared.fault.TextName.TheVariants as text
-use Rattle.riichi_hand.specs.declared.win.Rules.{Rules}
-use Rattle.riichi_hand.specs.declared.house.House.{House}
-use Rattle.riichi_hand.specs.Rules.{house_of}
+use Rattle.riichi_hand.specs.Rules.{Rules}
 use Rattle.riichi_hand.specs.declared.win.WinParts.{WinParts}
 use Rattle.riichi_hand.specs.declared.job.Job.{Job}
 use Rattle.riichi_hand.specs.declared.line.job_name.JobName.{JobName}
@@ -60,13 +58,13 @@ faults_of_win None = []
 faults_of_win (Some win) = win_faults win
 
 -- A win has one winning tile. Then come the faults of the record.
-abbrev pub job_faults : House → LineParts → Texts → JobName → List (Option LineFault)
+abbrev pub job_faults : Rules → LineParts → Texts → JobName → List (Option LineFault)
 job_faults rules parts texts Win =
     coded H8 (not (is_some (only_kind texts.on))) ∷ faults_of_win (win_of_line rules parts texts)
 job_faults rules parts texts Waits = hand_faults (hand_of_line texts)
 job_faults rules parts texts Shape = shape_faults (shape_of_line texts)
 
-abbrev pub faults_of : House → List ℕ → LineParts → List (Option LineFault)
+abbrev pub faults_of : Rules → List ℕ → LineParts → List (Option LineFault)
 faults_of rules line parts =
     word_faults line ++ (entry_faults parts ++ (need_faults parts ++ (text_faults parts
     ++ job_faults rules parts (texts_of parts) parts.job)))
@@ -83,7 +81,7 @@ outcome_of rules line =
     let parts = parts_of (words_of line) in
     if nat_lt 4096 (length line) then Err (Line H1)
     else (if is_no_record line then Ok None
-    else fault_or (first_fault (faults_of (house_of rules) line parts)) (job_of (house_of rules) parts (texts_of parts) parts.job))
+    else fault_or (first_fault (faults_of rules line parts)) (job_of rules parts (texts_of parts) parts.job))
 
 -- a word after the hand is no entry of the line's job
 abbrev pub has_bad_word : List ℕ → Bool

@@ -1,35 +1,15 @@
 -- The rules that a table may choose, one by one, and those of the two profiles that have a number.
-use Rattle.std.specs.Prelude.{ℕ, Bool, true, false, List, codes}
-use Rattle.riichi_hand.specs.declared.house.House.{House}
-use Rattle.riichi_hand.specs.declared.house.Switch.{Switch}
-use Rattle.riichi_hand.specs.declared.house.Switch.TheVariants as switch
-use Rattle.riichi_hand.specs.declared.win.Rules.{Rules}
-use Rattle.riichi_hand.specs.declared.win.Rules.TheVariants as rules
+use Rattle.std.specs.Prelude.{ℕ, ◌^◌, Bool, ◌==◌, List, [], ◌∷◌, codes, if◌then◌else◌}
+use Rattle.std.specs.Bool.{beq}
+use Rattle.std.specs.List.{sum_by}
+use Rattle.std.specs.Int.{bit_at}
+use Rattle.std.specs.Int.RustNames.{bit_xor}
+use Rattle.riichi_hand.specs.declared.switch.Switch.{Switch}
+use Rattle.riichi_hand.specs.declared.switch.Switch.TheVariants as switch
 
-abbrev pub first_profile : House
-first_profile = record {
-  red_fives = false;
-  raise = false;
-  add_yakuman = false;
-  double_yakuman = false;
-  counted_yakuman = true;
-  double_wind_pair = true;
-  kong_draw_fu = true;
-  open_simples = true;
-  open_pinfu_fu = true;
-  ippatsu = true;
-  ura = true;
-  blessing_of_man = false;
-}
-
--- the first with red fives and with raised hands
-abbrev pub second_profile : House
-second_profile = record first_profile { red_fives = true; raise = true }
-
-abbrev pub house_of : Rules → House
-house_of rules.One = first_profile
-house_of rules.Two = second_profile
-house_of (rules.House house) = house
+-- which of them are on: the number whose bit n says so of rule n of the table
+abbrev pub Rules : Type 0
+Rules = ℕ
 
 -- ---- the rules by their places in the table and by their words
 
@@ -61,31 +41,34 @@ switch_word switch.Ippatsu = codes "ippatsu"
 switch_word switch.Ura = codes "ura"
 switch_word switch.BlessingOfMan = codes "blessing-of-man"
 
-abbrev pub is_on : Switch → House → Bool
-is_on switch.RedFives house = house.red_fives
-is_on switch.Raise house = house.raise
-is_on switch.AddYakuman house = house.add_yakuman
-is_on switch.DoubleYakuman house = house.double_yakuman
-is_on switch.CountedYakuman house = house.counted_yakuman
-is_on switch.DoubleWindPair house = house.double_wind_pair
-is_on switch.KongDrawFu house = house.kong_draw_fu
-is_on switch.OpenSimples house = house.open_simples
-is_on switch.OpenPinfuFu house = house.open_pinfu_fu
-is_on switch.Ippatsu house = house.ippatsu
-is_on switch.Ura house = house.ura
-is_on switch.BlessingOfMan house = house.blessing_of_man
+-- in the order of the table
+abbrev pub every_switch : List Switch
+every_switch =
+    switch.RedFives ∷ switch.Raise ∷ switch.AddYakuman ∷ switch.DoubleYakuman ∷ switch.CountedYakuman ∷ switch.DoubleWindPair
+    ∷ switch.KongDrawFu ∷ switch.OpenSimples ∷ switch.OpenPinfuFu ∷ switch.Ippatsu ∷ switch.Ura
+    ∷ switch.BlessingOfMan ∷ []
 
--- the same rules with one of them on or off
-abbrev pub with_switch : Switch → Bool → House → House
-with_switch switch.RedFives on house = record house { red_fives = on }
-with_switch switch.Raise on house = record house { raise = on }
-with_switch switch.AddYakuman on house = record house { add_yakuman = on }
-with_switch switch.DoubleYakuman on house = record house { double_yakuman = on }
-with_switch switch.CountedYakuman on house = record house { counted_yakuman = on }
-with_switch switch.DoubleWindPair on house = record house { double_wind_pair = on }
-with_switch switch.KongDrawFu on house = record house { kong_draw_fu = on }
-with_switch switch.OpenSimples on house = record house { open_simples = on }
-with_switch switch.OpenPinfuFu on house = record house { open_pinfu_fu = on }
-with_switch switch.Ippatsu on house = record house { ippatsu = on }
-with_switch switch.Ura on house = record house { ura = on }
-with_switch switch.BlessingOfMan on house = record house { blessing_of_man = on }
+-- ---- sets of them
+
+unfoldable pub is_on : Switch → Rules → Bool
+is_on which rules = bit_at rules (switch_number which) == 1
+
+-- just these are on, each named once
+abbrev pub rules_with : List Switch → Rules
+rules_with switches = sum_by (λ which. 2 ^ switch_number which) switches
+
+-- the same rules with one of them on or off: it is turned where it isn't so
+unfoldable pub with_switch : Switch → Bool → Rules → Rules
+with_switch which on rules = if beq (is_on which rules) on then rules else bit_xor rules (2 ^ switch_number which)
+
+abbrev pub first_switches : List Switch
+first_switches =
+    switch.CountedYakuman ∷ switch.DoubleWindPair ∷ switch.KongDrawFu ∷ switch.OpenSimples ∷ switch.OpenPinfuFu
+    ∷ switch.Ippatsu ∷ switch.Ura ∷ []
+
+abbrev pub first_profile : Rules
+first_profile = rules_with first_switches
+
+-- the first with red fives and with raised hands
+abbrev pub second_profile : Rules
+second_profile = rules_with (switch.RedFives ∷ switch.Raise ∷ first_switches)

@@ -6,13 +6,14 @@ use Rattle.riichi_hand.specs.declared.fault.LineCode.TheVariants.{H4, H8, H9, H1
 use Rattle.riichi_hand.specs.declared.fault.LineFault.{LineFault}
 use Rattle.riichi_hand.specs.declared.win.By.{By}
 use Rattle.riichi_hand.specs.declared.win.By.TheVariants.{Ron, Tsumo}
-use Rattle.riichi_hand.specs.declared.house.House.{House}
+use Rattle.riichi_hand.specs.Rules.{Rules, is_on}
 use Rattle.riichi_hand.specs.declared.win.Flags.{Flags}
 use Rattle.riichi_hand.specs.declared.win.Wind.{Wind}
 use Rattle.riichi_hand.specs.declared.win.Wind.TheVariants.{East, South, West, North}
 use Rattle.riichi_hand.specs.declared.win.WinParts.{WinParts}
 use Rattle.riichi_hand.specs.Faults.{coded, first_fault, fault_or}
 use Rattle.riichi_hand.specs.Hand.{is_thirteen}
+use Rattle.riichi_hand.specs.declared.switch.Switch.TheVariants.{BlessingOfMan, RedFives}
 
 abbrev pub no_flags : Flags
 no_flags = record { ippatsu = false; rinshan = false; chankan = false; last = false; first = false }
@@ -62,7 +63,7 @@ is_dealer North = false
 
 -- the flag `first` by ron stands for the blessing of man, of another seat than the dealer's, where the rules have that
 abbrev pub may_be_blessing_of_man : WinParts → Bool
-may_be_blessing_of_man parts = parts.rules.blessing_of_man && not (is_dealer parts.seat)
+may_be_blessing_of_man parts = is_on BlessingOfMan parts.rules && not (is_dealer parts.seat)
 
 -- the flag `first` beside a meld, by ron that is no blessing of man, with riichi or with another flag
 abbrev pub has_wrong_first : WinParts → Bool
@@ -88,7 +89,7 @@ win_faults parts =
     ∷ coded H13 (parts.flags.chankan && not (is_ron parts.by))
     ∷ coded H14 (are_exclusive parts.flags)
     ∷ coded H15 (has_wrong_first parts)
-    ∷ coded H16 (parts.rules.red_fives && has_too_many_reds parts)
+    ∷ coded H16 (is_on RedFives parts.rules && has_too_many_reds parts)
     ∷ []
 
 abbrev pub no_reds : List ℕ
@@ -114,8 +115,8 @@ without_reds parts = record {
 }
 
 -- what is kept: without the rule of red fives none of them
-abbrev pub kept_under : House → WinParts → WinParts
-kept_under rules parts = if rules.red_fives then parts else without_reds parts
+abbrev pub kept_under : Rules → WinParts → WinParts
+kept_under rules parts = if is_on RedFives rules then parts else without_reds parts
 
 -- The parts of a win record: they have no fault, and without the rule of red fives none of them. Whether the hand wins is another matter.
 pub record IsWinRecord (parts : WinParts) : Type 0 where

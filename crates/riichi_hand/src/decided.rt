@@ -3,33 +3,19 @@ ghost use Rattle.std.proofs.Common.{rules};
 
 use crate::fault::{LineCode, LineFault, TextName};
 use crate::hand::HandRecord;
-use crate::house::{House, Switch};
 use crate::job::Job;
-use crate::rule_set::RuleSet;
+use crate::rules::Rules;
 use crate::shape::ShapeRecord;
-use crate::win::{By, Flags, Rules, WinParts, WinRecord, Wind};
+use crate::switch::Switch;
+use crate::win::{By, Flags, WinParts, WinRecord, Wind};
 use riichi_tiles::Decided;
-
-impl Decided for House {
-    ghost use Rattle.riichi_hand.specs.Houses.{houses_decide};
-
-    ghost decides = { houses_decide };
-}
-
-impl Decided for RuleSet {
-    ghost use Rattle.riichi_hand.specs.Houses.{rule_sets_decide};
-
-    ghost decides = { rule_sets_decide };
-}
 
 impl Decided for Switch {
     ghost decides = { λ a b. Prim.search rules };
 }
 
 impl Decided for Rules {
-    ghost use Rattle.riichi_hand.specs.Houses.{houses_decide};
-
-    ghost decides = { λ a b. Prim.search (rules, houses_decide) };
+    ghost decides = { λ a b. Prim.search rules };
 }
 
 impl Decided for By {

@@ -1,15 +1,16 @@
-//! A law over the definitions alone: the two profiles are two choices of the rules of a house.
-ghost use Rattle.std.specs.Prelude.{◌≡◌, List, ℕ};
-ghost use Rattle.riichi_hand.specs.declared.win.Rules.{Rules};
-ghost use Rattle.riichi_hand.specs.declared.win.Rules.TheVariants.{House};
-ghost use Rattle.riichi_hand.specs.Lines.{outcome_of};
-ghost use Rattle.riichi_hand.specs.Rules.{house_of};
+//! A law over the definitions alone: a text names one choice of rules.
+ghost use Rattle.std.specs.Prelude.{◌≡◌, List, ℕ, ◌<◌, ◌^◌};
+ghost use Rattle.riichi_hand.specs.Rules.{Rules};
+ghost use Rattle.riichi_hand.specs.RulesText.{NamesRules};
+ghost use Rattle.riichi_hand.specs.RulesWords.{rules_words};
 
-/// What a win keeps of a profile is what it keeps of the rules of a house that are on and off as in that profile, so every win
-/// has the same worth under both; and each line is read alike.
-#[tactic(auto, unfolding(crate::specs::Lines::outcome_of))]
-pub fn profiles_are_rules_of_a_house()
-    ensures kept { (rules : Rules) → house_of (House (house_of rules)) ≡ house_of rules }
-    ensures read { (rules : Rules) (line : List ℕ) → outcome_of (House (house_of rules)) line
-        ≡ outcome_of rules line }
+use crate::switch::Switch;
+
+/// The words that are printed for rules name these rules, and no text names two choices. So what is printed is read as it was
+/// meant, and what was read is printed as a text that reads the same.
+#[tactic(auto, using(crate::proofs::RulesTexts::printed_names))]
+pub fn printed_rules_are_read_back()
+    ensures printed { (rules : Rules) → rules < 2 ^ Switch.COUNT → NamesRules (rules_words rules) rules }
+    ensures one { (text : List ℕ) (rules other : Rules) → NamesRules text rules
+        → NamesRules text other → rules ≡ other }
 {}

@@ -3,7 +3,7 @@
 //! A [`Job`] is one question: what a [`WinRecord`] is worth, which tiles a [`HandRecord`] waits for, how far a
 //! [`ShapeRecord`] is from a win. Each record keeps the conditions of its tiles and flags by its type, since its
 //! constructor answers the first [`LineFault`] of what it is given. So whoever holds a record needs no test.
-//! [`WinParts`] are the parts of a win, with a [`RuleSet`], [`By`], [`Wind`] and [`Flags`].
+//! [`WinParts`] are the parts of a win, with [`Rules`], [`By`], [`Wind`] and [`Flags`].
 //!
 //! [`read_line`] reads a record line, as `win 234m567m345p67s99s on=5s by=ron seat=S round=E`: it answers the job,
 //! nothing for a comment or a blank line, or the first fault of the line, whose text is [`fault_text`]. A [`LineCode`]
@@ -23,26 +23,28 @@
 mod decided;
 mod fault;
 mod hand;
-mod house;
 mod job;
 pub mod laws;
 mod line;
-mod rule_set;
 mod rule_words;
+mod rules;
+mod rules_text;
 mod shape;
+mod switch;
 mod win;
 
 pub use fault::{
     LineCode, LineFault, TextName, fault_text, line_code_text, name_text, notation_code_text,
 };
 pub use hand::HandRecord;
-pub use house::{House, Switch};
 pub use job::Job;
 pub use line::{
     MOST_LINE, Place, Refusal, from_with, has_other_byte, is_other_byte, key_of, next_word,
     read_line, read_placed, without_spaces, word_len, word_of,
 };
-pub use rule_set::RuleSet;
-pub use rule_words::{push_house_words, rules_words};
+pub use rule_words::{MOST_RULES_WORDS, push_house_words, rules_words};
+pub use rules::Rules;
+pub use rules_text::{RulesFault, read_rules};
 pub use shape::ShapeRecord;
-pub use win::{By, Flags, Rules, WinParts, WinRecord, Wind, is_ron};
+pub use switch::Switch;
+pub use win::{By, Flags, WinParts, WinRecord, Wind, is_ron};

@@ -2,63 +2,14 @@
 ghost use Rattle.std.specs.Prelude.{◌≡◌, ◌≤◌, ◌+◌, ℕ, slice_index, nat_eq, if◌then◌else◌};
 ghost use Rattle.riichi_tiles.specs.Melds.{tiles};
 ghost use Rattle.riichi_hand.specs.Faults.{first_fault};
-ghost use Rattle.riichi_hand.specs.Rules as rules_spec;
-ghost use Rattle.riichi_hand.specs.Rules.{house_of};
 ghost use Rattle.riichi_hand.specs.Win as spec;
 
 use crate::fault::{LineCode, LineFault};
 use crate::hand::is_thirteen;
-use crate::house::{House, Switch};
-use crate::rule_set::RuleSet;
+use crate::rules::Rules;
+use crate::switch::Switch;
 use riichi_tiles::{Counts, Kind, Melds, Reds, meld_tiles};
 use std::marker::Model;
-
-/// The rule profile of a win.
-#[derive(Clone, Copy, Debug, PartialEq, Eq)]
-pub enum Rules {
-    /// A `0` is a plain five.
-    One,
-    /// Each red five is one han of dora, and four han with 30 fu, or three with 60, are a mangan.
-    Two,
-    /// Each rule as a house has chosen it.
-    House(House),
-}
-
-impl Rules {
-    /// The rules one by one: those of the first and of the second profile are a choice among others.
-    pub fn house(self) -> House
-        ensures { result ≡ house_of self }
-    {
-        match self {
-            Rules::One => first_profile(),
-            Rules::Two => House {
-                red_fives: true,
-                raise: true,
-                ..first_profile()
-            },
-            Rules::House(house) => house,
-        }
-    }
-}
-
-fn first_profile() -> House
-    ensures { result ≡ rules_spec.first_profile }
-{
-    House {
-        red_fives: false,
-        raise: false,
-        add_yakuman: false,
-        double_yakuman: false,
-        counted_yakuman: true,
-        double_wind_pair: true,
-        kong_draw_fu: true,
-        open_simples: true,
-        open_pinfu_fu: true,
-        ippatsu: true,
-        ura: true,
-        blessing_of_man: false,
-    }
-}
 
 /// How a hand is won.
 #[derive(Clone, Copy, Debug, PartialEq, Eq)]
@@ -133,7 +84,7 @@ impl Flags {
 /// What a win is made of: any values of these types. [`WinRecord::new`] tests them.
 #[derive(Clone, Copy, Debug, PartialEq, Eq)]
 pub struct WinParts {
-    pub rules: RuleSet,
+    pub rules: Rules,
     /// The concealed tiles before the winning tile.
     pub concealed: Counts,
     pub melds: Melds,
@@ -216,7 +167,7 @@ impl WinRecord {
 
     /// Which rules are on.
     #[inline(always)]
-    pub fn rules(&self) -> RuleSet
+    pub fn rules(&self) -> Rules
         ensures { result ≡ self.now.rules }
     {
         self.parts.rules

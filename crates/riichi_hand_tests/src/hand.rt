@@ -641,7 +641,7 @@ fn win_with(rules: Rules, riichi: u8, reds: Reds) -> Result<WinRecord, LineFault
         Err(fault) => return Err(LineFault::Notation(TextName::Hand, fault)),
     };
     WinRecord::new(WinParts {
-        rules: RuleSet::of(rules),
+        rules: rules,
         concealed,
         melds: Melds::new(),
         winning: Kind::at(10),
@@ -687,11 +687,10 @@ fn is_on_in(profile: Rules, rule: Switch) -> bool {
 fn rules_in_one_word(rt: HostRuntime) {
     for profile in [Rules::One, Rules::Two] {
         for turned in Switch::ALL {
-            let house = profile.house().with(turned, !is_on_in(profile, turned));
-            let set = RuleSet::of(Rules::House(house));
+            let set = profile.with(turned, !is_on_in(profile, turned));
             for rule in Switch::ALL {
                 let is_on = is_on_in(profile, rule);
-                same(&rt, RuleSet::of(profile).has(rule), is_on);
+                same(&rt, profile.has(rule), is_on);
                 same(&rt, set.has(rule), is_on != (rule == turned));
             }
         }
@@ -719,7 +718,7 @@ fn reads_each_key(rt: HostRuntime) {
     let all =
         b"win 234m567m34p99s open=ankan:1111z on=2p by=tsumo seat=W round=N riichi=2 flags=rinshan dora=1p ura=3m counters=7 sticks=12";
     let win = win_of(Rules::Two, all).expect(&rt, "a win");
-    same(&rt, win.rules(), RuleSet::of(Rules::Two));
+    same(&rt, win.rules(), Rules::Two);
     same(&rt, win.concealed().total(), 10);
     same(&rt, win.melds().count(), 1);
     same(&rt, win.winning(), Kind::at(10));

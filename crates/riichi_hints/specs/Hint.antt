@@ -1,12 +1,12 @@
 -- What follows a refusal: the word at fault and what may stand there, a note, and a line that is answered, where one was found.
-use Rattle.std.specs.Prelude.{◌≡◌, ℕ, ◌<◌, ◌==◌, ◌+◌, List, [], ◌∷◌, ◌++◌, Bool, true, false, ◌&&◌, Option, None, Some, Result, Ok, IfSome, codes, if◌then◌else◌}
-use Rattle.std.specs.List.{list_any}
+use Rattle.std.specs.Prelude.{◌≡◌, ℕ, ◌<◌, ◌≤◌, ◌==◌, ◌+◌, List, [], ◌∷◌, ◌++◌, Bool, true, false, ◌&&◌, Option, None, Some, Result, Ok, IfSome, codes, if◌then◌else◌}
+use Rattle.std.specs.List.{All, list_any}
 use Rattle.riichi_tiles.specs.Notation.{is_digit}
 use Rattle.riichi_hand.specs.declared.fault.LineCode.TheVariants.{H4, H9}
 use Rattle.riichi_hand.specs.declared.fault.LineFault.{LineFault}
 use Rattle.riichi_hand.specs.declared.fault.LineFault.TheVariants.{Line}
 use Rattle.riichi_hand.specs.declared.job.Job.{Job}
-use Rattle.riichi_hand.specs.declared.win.Rules.TheVariants.{One, Two}
+use Rattle.riichi_hand.specs.Rules.{first_profile, second_profile}
 use Rattle.riichi_hand.specs.Lines.{outcome_of, is_other_byte}
 use Rattle.riichi_hand.specs.Places.{fault_from}
 use Rattle.riichi_refusals.specs.Refusal.{refusal_lines}
@@ -20,7 +20,7 @@ is_record outcome = false
 
 -- Under both profiles with a number the line is a record, without a fault: it is answered.
 abbrev pub IsAnswered : List ℕ → Type 0
-IsAnswered line = (is_record (outcome_of One line) ≡ true) × (is_record (outcome_of Two line) ≡ true)
+IsAnswered line = (is_record (outcome_of first_profile line) ≡ true) × (is_record (outcome_of second_profile line) ≡ true)
 
 -- ---- the tiles of a line
 
@@ -49,10 +49,23 @@ pub record IsCrowdNote (line note : List ℕ) : Type 0 where
   pub note_is : note ≡ digit ∷ suit ∷ more
   pub crowded : 4 < copies_on_line digit suit line
 
+-- of no digit of a suit with that letter the line has more than four copies
+abbrev pub HasNoneCrowded : ℕ → List ℕ → Type 0
+HasNoneCrowded suit line = (digit : ℕ) → 49 ≤ digit → digit ≤ 57 → copies_on_line digit suit line ≤ 4
+
+-- nor of a tile of any suit
+abbrev pub IsNotCrowded : List ℕ → Type 0
+IsNotCrowded line = All (λ suit. HasNoneCrowded suit line) (codes "mpsz")
+
 abbrev pub IsNote : LineFault → List ℕ → List ℕ → Type 0
 IsNote (Line H4) line note = IsKeyNote (fault_from (Line H4) line) note
 IsNote (Line H9) line note = IsCrowdNote line note
 IsNote fault line note = Unit {0}
+
+-- where there is no note on H9, no tile is there too often
+abbrev pub HasNoNote : LineFault → List ℕ → Type 0
+HasNoNote (Line H9) line = IsNotCrowded line
+HasNoNote fault line = Unit {0}
 
 -- ---- the text
 

@@ -1,5 +1,6 @@
 -- Which name is nearest to a word.
-use Rattle.std.specs.Prelude.{◌≡◌, ◌⊎◌, ℕ, ◌==◌, ◌+◌, ◌*◌, ◌<◌, ◌≤◌, List, [], ◌∷◌, ◌++◌, Bool, ◌&&◌, ◌||◌, Option, None, Some, length, nat_le, map, take, unwrap_or, codes, if◌then◌else◌}
+use Rattle.std.specs.Prelude.{◌≡◌, ◌⊎◌, ℕ, ◌==◌, ◌+◌, ◌*◌, ◌<◌, ◌≤◌, List, [], ◌∷◌, ◌++◌, Bool, false, ◌&&◌, ◌||◌, Option, None, Some, length, nat_le, map, take, unwrap_or, codes, if◌then◌else◌}
+use Rattle.std.specs.Str.{bytes_eq}
 use Rattle.std.specs.List.{Any, filter_map, position_or_len}
 use Rattle.riichi_hand.specs.Words.{word_of}
 use Rattle.riichi_hints.specs.declared.names.Key.{Key}
@@ -53,9 +54,11 @@ names = map (λ row. (row.0.now, row.1)) NAMES
 abbrev pub IsReached : ℕ → List ℕ → Meaning → Type 0
 IsReached edits name meaning = Any (λ row. (row.1 ≡ meaning) × IsWithin edits row.0 name) names
 
--- So many edits reach a name that means this, and fewer reach none.
+-- So many edits reach a name that means this, two at most and fewer than half of the letters, and fewer edits reach none.
 pub record IsNearest (name : List ℕ) (meaning : Meaning) : Type 0 where
   pub edits : ℕ
+  pub few : edits ≤ 2
+  pub fewer_than_half : 2 * edits < length name
   pub reached : IsReached edits name meaning
   pub least : (fewer : ℕ) (other : Meaning) → fewer < edits → IsReached fewer name other → ⊥
 
@@ -85,10 +88,11 @@ said_under (meaning.Flag flag) = Some (codes "flags")
 said_under meaning.DoubleRiichi = Some (codes "riichi")
 said_under meaning.Meld = Some (codes "open")
 
--- The note names the key of a name than which none is nearer to that of the word.
+-- The note names the key of a name than which none is nearer to that of the word, and another than the word has.
 pub record IsKeyNote (from : Option (List ℕ)) (note : List ℕ) : Type 0 where
   pub meaning : Meaning
   pub nearest : IsNearest (plain_name (before_mark (word_of (unwrap_or from [])))) meaning
   pub key : List ℕ
   pub key_is : said_under meaning ≡ Some key
+  pub is_another : bytes_eq key (before_mark (word_of (unwrap_or from []))) ≡ false
   pub note_is : note ≡ codes "the nearest key is " ++ key

@@ -1,7 +1,8 @@
 //! The lines that follow a refusal, and among them a line that is answered.
-ghost use Rattle.std.specs.Prelude.{◌≡◌, ◌+◌, ◌≤◌, ◌++◌, ℕ, List, Option, Some, IfSome, length, codes, option_map};
+ghost use Rattle.std.specs.Prelude.{◌≡◌, ◌+◌, ◌≤◌, ◌++◌, ℕ, List, Option, Some, IfSome, length, codes, option_map, false, IsTrue, ◌↔◌};
+ghost use Rattle.std.specs.List.{list_any};
 ghost use Rattle.arrayvec.specs.ArrayString.{array_string_len};
-ghost use Rattle.riichi_hand.specs.Lines.{outcome_of};
+ghost use Rattle.riichi_hand.specs.Lines.{outcome_of, is_other_byte};
 ghost use Rattle.riichi_hand.specs.Places.{fault_from};
 ghost use Rattle.riichi_hints.specs.Hint.{is_record, IsNote, IsAnswered, IsPrintable, told_line, IsRefusalText};
 
@@ -9,14 +10,14 @@ use crate::draft::Draft;
 use crate::notes::note_of;
 use crate::plain::plain_line;
 use crate::text::{Line, MOST};
-use arrayvec::ArrayString;
 use riichi_hand::{Refusal, Rules, has_other_byte, read_line};
-use riichi_refusals::push_refusal_lines;
+use riichi_refusals::{MOST_REFUSAL, push_refusal_lines};
+use riichi_text::{ANSWER_ROOM, AnswerText};
 
 /// Writes the lines that follow a refusal: the word at fault and what may stand there, a note where more can be said, and a
 /// line like the refused one that is answered, where one is found.
-pub fn push_refusal(text: &mut ArrayString<3072>, line: &[u8], refusal: &Refusal<'_>)
-    requires room { array_string_len text.old + 2930 ≤ 3072 }
+pub fn push_refusal(text: &mut AnswerText, line: &[u8], refusal: &Refusal<'_>)
+    requires room { array_string_len text.old + MOST_REFUSAL ≤ ANSWER_ROOM }
     requires from { option_map (λ from. from.now) refusal.now.from
         ≡ fault_from refusal.now.fault line.now }
     ensures { (said : List ℕ) × IsRefusalText line.now refusal.now.fault said
@@ -27,7 +28,7 @@ pub fn push_refusal(text: &mut ArrayString<3072>, line: &[u8], refusal: &Refusal
     push_hint(text, line);
 }
 
-fn push_note(text: &mut ArrayString<3072>, line: &[u8], refusal: &Refusal<'_>)
+fn push_note(text: &mut AnswerText, line: &[u8], refusal: &Refusal<'_>)
     requires { option_map (λ from. from.now) refusal.now.from
         ≡ fault_from refusal.now.fault line.now }
     ensures { let fault = refusal.now.fault in
@@ -39,7 +40,7 @@ fn push_note(text: &mut ArrayString<3072>, line: &[u8], refusal: &Refusal<'_>)
     }
 }
 
-fn push_hint(text: &mut ArrayString<3072>, line: &[u8])
+fn push_hint(text: &mut AnswerText, line: &[u8])
     ensures { (hint : Option (List ℕ)) × IfSome hint (λ other. IsAnswered other × IsPrintable other)
         × (text.new.bytes ≡ text.old.bytes ++ told_line (codes "  try: ") hint) }
 {
@@ -52,7 +53,7 @@ fn push_hint(text: &mut ArrayString<3072>, line: &[u8])
 pub fn hint_of(line: &[u8]) -> Option<Line>
     ensures { IfSome result (λ hint. IsAnswered hint.items) }
 {
-    if line.len() > MOST {
+    if !is_read(line) {
         return None;
     }
     let mut draft = Draft::read(plain_line(line).as_slice());
@@ -65,6 +66,13 @@ pub fn hint_of(line: &[u8]) -> Option<Line>
     }
 }
 
+/// A line that isn't too long is read loosely.
+fn is_read(line: &[u8]) -> bool
+    ensures { IsTrue result ↔ (length line.now ≤ MOST) }
+{
+    line.len() <= MOST
+}
+
 fn is_answered(rules: Rules, line: &[u8]) -> bool
     ensures { result ≡ is_record (outcome_of rules line.now) }
 {
@@ -75,9 +83,13 @@ fn is_answered(rules: Rules, line: &[u8]) -> bool
 }
 
 /// Writes a line of words where they are printable and there is room.
-fn push_line(text: &mut ArrayString<3072>, before: &str, words: &[u8])
+fn push_line(text: &mut AnswerText, before: &str, words: &[u8])
     requires { length before.now ≤ 8 }
-    ensures { (told : Option (List ℕ)) × IfSome told (λ line. (line ≡ words.now) × IsPrintable line)
+    ensures room { list_any is_other_byte words.now ≡ false
+        → array_string_len text.old + length words.now + 9 ≤ ANSWER_ROOM
+        → text.new.bytes ≡ text.old.bytes ++ told_line before.now (Some words.now) }
+    ensures line { (told : Option (List ℕ))
+        × IfSome told (λ line. (line ≡ words.now) × IsPrintable line)
         × (text.new.bytes ≡ text.old.bytes ++ told_line before.now told) }
 {
     if has_other_byte(words) || text.remaining_capacity() < words.len() + 9 {

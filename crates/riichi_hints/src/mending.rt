@@ -1,5 +1,5 @@
 //! What a draft says that can't be, set right.
-ghost use Rattle.std.specs.Prelude.{◌≤◌};
+ghost use Rattle.std.specs.Prelude.{◌≡◌, ◌-◌, ◌*◌, ◌≤◌};
 
 use crate::draft::Draft;
 use crate::names::Job;
@@ -98,7 +98,8 @@ impl Draft {
 
 /// How many tiles stand in a hand beside so many melds, before the last is drawn.
 pub(crate) fn wanted_beside(melds: usize) -> usize
-    ensures { result ≤ 13 }
+    ensures value { result ≡ 13 - 3 * melds }
+    ensures most { result ≤ 13 }
 {
     13usize.saturating_sub(melds.saturating_mul(3))
 }

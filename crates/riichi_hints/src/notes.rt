@@ -1,7 +1,8 @@
 //! What more can be said of a refused line: the numbers of its tiles, the tile that is there too often, the nearest key.
-ghost use Rattle.std.specs.Prelude.{◌≡◌, ◌≤◌, IfSome, length, option_map};
+ghost use Rattle.std.specs.Prelude.{◌≡◌, ◌≤◌, IfNone, IfSome, codes, length, option_map, if◌then◌else◌};
+ghost use Rattle.std.specs.Str.{bytes_eq};
 ghost use Rattle.riichi_hand.specs.Places.{fault_from};
-ghost use Rattle.riichi_hints.specs.Hint.{IsNote, IsCrowdNote};
+ghost use Rattle.riichi_hints.specs.Hint.{IsNote, HasNoNote, IsCrowdNote, IsNotCrowded};
 ghost use Rattle.riichi_hints.specs.Near.{IsKeyNote, said_under};
 
 use crate::mending::wanted_beside;
@@ -13,11 +14,13 @@ use arrayvec::ArrayString;
 use riichi_hand::{LineCode, LineFault, Refusal, from_with, next_word, word_of};
 use riichi_text::push_number;
 
-/// The note on a refused line. That of H9 begins with a tile that the line has more than four times.
+/// The note on a refused line. That of H9 begins with a tile that the line has more than four times, and is there where a tile
+/// stands so often.
 pub(crate) fn note_of(line: &[u8], refusal: &Refusal<'_>) -> Option<Part>
     requires { option_map (λ from. from.now) refusal.now.from
         ≡ fault_from refusal.now.fault line.now }
-    ensures { IfSome result (λ note. IsNote refusal.now.fault line.now note.items) }
+    ensures note { IfSome result (λ note. IsNote refusal.now.fault line.now note.items) }
+    ensures none { IfNone result (HasNoNote refusal.now.fault line.now) }
 {
     match refusal.fault {
         LineFault::Line(LineCode::H4) => key_note(refusal.from),
@@ -73,14 +76,7 @@ fn number_note(line: &[u8], from: Option<&[u8]>) -> Option<Part> {
         Some((name, tiles)) => {
             add_all(&mut note, name);
             add_count(&mut note, " has ", tile_count(tiles), "tile");
-            add_all(
-                &mut note,
-                if name == b"on".as_slice() {
-                    b": 1 wanted"
-                } else {
-                    b": at most 5 wanted"
-                },
-            );
+            add_all(&mut note, wanted_of(name));
         }
         None => {
             add_count(&mut note, "hand has ", tile_count(word), "tile");
@@ -88,6 +84,18 @@ fn number_note(line: &[u8], from: Option<&[u8]>) -> Option<Part> {
         }
     }
     Some(note)
+}
+
+/// How many tiles a key wants that isn't the hand's.
+fn wanted_of(name: &[u8]) -> &'static [u8]
+    ensures { result.now
+        ≡ (if bytes_eq name.now (codes "on") then codes ": 1 wanted" else codes ": at most 5 wanted") }
+{
+    if name == b"on".as_slice() {
+        b": 1 wanted"
+    } else {
+        b": at most 5 wanted"
+    }
 }
 
 /// The melds, and how many tiles are wanted beside them.
@@ -135,7 +143,8 @@ fn meld_count(line: &[u8]) -> usize {
 
 /// The tile of which there are more than four, how many there are, and where.
 fn crowd_note(line: &[u8]) -> Option<Part>
-    ensures { IfSome result (λ note. IsCrowdNote line.now note.items) }
+    ensures note { IfSome result (λ note. IsCrowdNote line.now note.items) }
+    ensures none { IfNone result (IsNotCrowded line.now) }
 {
     let tile = crowded_tile(line)?;
     let mut note = Part::new();

@@ -1,5 +1,5 @@
 //! Texts of tiles, as players write them.
-ghost use Rattle.std.specs.Prelude.{◌≡◌, ◌<◌, IfSome};
+ghost use Rattle.std.specs.Prelude.{◌≡◌, ◌<◌, IfNone, IfSome};
 ghost use Rattle.riichi_hints.specs.Hint as spec;
 
 use crate::text::{Part, add, add_all, last};
@@ -160,17 +160,27 @@ fn five_if_zero(byte: u8) -> u8
 
 /// The first tile of which a line has more than four copies.
 pub(crate) fn crowded_tile(line: &[u8]) -> Option<Tile>
-    ensures { IfSome result (λ tile. 4 < spec.copies_on_line tile.digit tile.suit line.now) }
+    ensures some { IfSome result (λ tile. 4 < spec.copies_on_line tile.digit tile.suit line.now) }
+    ensures none { IfNone result (spec.IsNotCrowded line.now) }
 {
     for suit in b"mpsz" {
-        for digit in b"123456789" {
-            let tile = Tile {
-                digit: *digit,
-                suit: *suit,
-            };
-            if copies_in(line, tile) > 4 {
-                return Some(tile);
-            }
+        let crowded = crowded_of(line, *suit);
+        if crowded.is_some() {
+            return crowded;
+        }
+    }
+    None
+}
+
+/// The same of one suit.
+fn crowded_of(line: &[u8], suit: u8) -> Option<Tile>
+    ensures some { IfSome result (λ tile. 4 < spec.copies_on_line tile.digit tile.suit line.now) }
+    ensures none { IfNone result (spec.HasNoneCrowded suit line.now) }
+{
+    for digit in b'1'..b'9' + 1 {
+        let tile = Tile { digit, suit };
+        if copies_in(line, tile) > 4 {
+            return Some(tile);
         }
     }
     None

@@ -1,7 +1,7 @@
 //! The Japanese names by which players know the yaku.
 //!
 //! [`japanese`] gives the name in ASCII letters, as `tanyao` for the printed word `all-simples`; [`push_named`] writes the printed
-//! word with that name beside it.
+//! word with that name beside it. [`condition_words`] says when a yaku holds.
 #![tactic(auto)]
 
 ghost use Rattle.std.specs.Prelude.{◌≡◌, ◌+◌, ◌≤◌, ◌++◌, length, true};
@@ -12,10 +12,19 @@ ghost use Rattle.riichi_names.specs.Names as spec;
 use arrayvec::ArrayString;
 use riichi_yaku::Yaku;
 
+/// The bytes of the longest Japanese name.
+pub const MOST_JAPANESE: usize = "haitei or houtei".len();
+
+/// The bytes of the longest name beside a word.
+const MOST_BESIDE: usize = " (".len() + MOST_JAPANESE + ")".len();
+
+/// The bytes of the longest word with the name beside it.
+pub const MOST_NAMED: usize = Yaku::MOST_WORD + MOST_BESIDE;
+
 /// The Japanese name of a yaku. The last tile has two: haitei by self-draw, houtei by ron.
 pub fn japanese(yaku: Yaku) -> &'static str
     ensures value { result.now ≡ spec.japanese yaku }
-    ensures short { length result.now ≤ 16 }
+    ensures short { length result.now ≤ MOST_JAPANESE }
 {
     match yaku {
         Yaku::Riichi => "riichi",
@@ -53,7 +62,7 @@ pub fn japanese(yaku: Yaku) -> &'static str
 
 fn japanese_of_yakuman(yaku: Yaku) -> &'static str
     ensures value { yaku_is_yakuman yaku ≡ true → result.now ≡ spec.japanese yaku }
-    ensures short { length result.now ≤ 16 }
+    ensures short { length result.now ≤ MOST_JAPANESE }
 {
     match yaku {
         Yaku::ThirteenOrphans => "kokushi musou",
@@ -73,6 +82,71 @@ fn japanese_of_yakuman(yaku: Yaku) -> &'static str
     }
 }
 
+/// When a yaku holds, in words for a table of them. docs/RULES.md has the same.
+pub fn condition_words(yaku: Yaku) -> &'static str
+    ensures { length result.now ≤ 140 }
+{
+    match yaku {
+        Yaku::Riichi => "riichi was declared",
+        Yaku::DoubleRiichi => "riichi with the first discard; in place of number 0",
+        Yaku::Ippatsu => "the flag ippatsu: won within a round of the declaration",
+        Yaku::FullyConcealed => "a self-draw",
+        Yaku::Pinfu => "four runs, a pair that earns no fu, and a two-sided wait",
+        Yaku::PureDoubleChow => "two equal runs, and not number 27",
+        Yaku::AllSimples => "every tile is a simple",
+        Yaku::WhiteDragon => "a triplet of White",
+        Yaku::GreenDragon => "a triplet of Green",
+        Yaku::RedDragon => "a triplet of Red",
+        Yaku::SeatWind => "a triplet of the seat wind",
+        Yaku::PrevalentWind => "a triplet of the round's wind",
+        Yaku::AfterAKong => "the flag rinshan: won on the tile drawn after a kong",
+        Yaku::RobbingTheKong => "the flag chankan: won on the tile that was added to a triplet",
+        Yaku::LastTile => "the flag last: won on the last tile or the last discard",
+        Yaku::MixedTripleChow => "runs of the same numbers in all three suits",
+        Yaku::PureStraight => "runs 123, 456 and 789 of one suit",
+        Yaku::OutsideHand =>
+            "each set and the pair has a terminal or honour; at least one run; at least one honour",
+        Yaku::SevenPairs => "the hand is seven pairs",
+        Yaku::TriplePung => "triplets of the same number in all three suits",
+        Yaku::ThreeKongs => "at least three kongs",
+        Yaku::AllPungs => "four triplets",
+        Yaku::ThreeConcealedPungs => "at least three concealed triplets or concealed kongs",
+        Yaku::LittleThreeDragons =>
+            "triplets of two dragons and a pair of the third (the two triplets count besides)",
+        Yaku::AllTerminalsAndHonours => "every tile is a terminal or honour",
+        Yaku::HalfFlush => "suit tiles of one suit, at least one; at least one honour",
+        Yaku::TerminalsInAllSets =>
+            "each set and the pair has a terminal; no honour; at least one run",
+        Yaku::TwicePureDoubleChow => "the four sets are runs that make two pairs of equal runs",
+        Yaku::FullFlush => "every tile is of one suit",
+        yakuman => condition_of_yakuman(yakuman),
+    }
+}
+
+fn condition_of_yakuman(yaku: Yaku) -> &'static str
+    ensures { length result.now ≤ 140 }
+{
+    match yaku {
+        Yaku::ThirteenOrphans => "the hand is thirteen orphans",
+        Yaku::NineGates =>
+            "no meld, not even a concealed kong; every tile of one suit; at least three 1, three 9 and one of each 2 to 8",
+        Yaku::FourConcealedPungs =>
+            "four concealed triplets or concealed kongs, so by ron only where the pair is completed",
+        Yaku::BigThreeDragons => "triplets of all three dragons",
+        Yaku::LittleFourWinds => "triplets of three winds and a pair of the fourth",
+        Yaku::BigFourWinds => "triplets of all four winds",
+        Yaku::AllHonours => "every tile is an honour; a standard hand or seven pairs",
+        Yaku::AllTerminals => "every tile is a terminal; a standard hand",
+        Yaku::AllGreen => "every tile is a 2s, 3s, 4s, 6s, 8s or Green; a standard hand",
+        Yaku::FourKongs => "four kongs",
+        Yaku::BlessingOfHeaven => "the dealer wins on the first draw (the flag first); any hand",
+        Yaku::BlessingOfEarth => "another seat wins on its first draw (the flag first); any hand",
+        Yaku::BlessingOfMan =>
+            "under the rule blessing-of-man: another seat wins by ron before its first draw (the flag first); any hand",
+        _ => "",
+    }
+}
+
 /// Whether the printed word is the Japanese name.
 fn is_japanese(yaku: Yaku) -> bool
     ensures { result ≡ spec.is_japanese yaku }
@@ -86,9 +160,9 @@ fn is_japanese(yaku: Yaku) -> bool
 /// Writes the printed word of a yaku, and beside it in brackets the Japanese name where that is another.
 #[tactic(auto, unfolding(crate::specs::Names::named))]
 pub fn push_named<const ROOM: usize>(text: &mut ArrayString<ROOM>, yaku: Yaku)
-    requires { array_string_len text.old + 44 ≤ ROOM }
+    requires { array_string_len text.old + MOST_NAMED ≤ ROOM }
     ensures bytes { text.new.bytes ≡ text.old.bytes ++ spec.named yaku }
-    ensures len { array_string_len text.new ≤ array_string_len text.old + 44 }
+    ensures len { array_string_len text.new ≤ array_string_len text.old + MOST_NAMED }
 {
     text.push_str(yaku.word());
     if !is_japanese(yaku) {
@@ -98,9 +172,9 @@ pub fn push_named<const ROOM: usize>(text: &mut ArrayString<ROOM>, yaku: Yaku)
 
 #[tactic(auto, unfolding(crate::specs::Names::name_beside))]
 fn push_name_beside<const ROOM: usize>(text: &mut ArrayString<ROOM>, yaku: Yaku)
-    requires { array_string_len text.old + 19 ≤ ROOM }
+    requires { array_string_len text.old + MOST_BESIDE ≤ ROOM }
     ensures bytes { text.new.bytes ≡ text.old.bytes ++ spec.name_beside yaku }
-    ensures len { array_string_len text.new ≤ array_string_len text.old + 19 }
+    ensures len { array_string_len text.new ≤ array_string_len text.old + MOST_BESIDE }
 {
     text.push_str(" (");
     text.push_str(japanese(yaku));

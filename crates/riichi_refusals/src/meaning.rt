@@ -6,11 +6,16 @@ ghost use Rattle.riichi_hand.specs.Words.{word_of, words_of};
 ghost use Rattle.riichi_refusals.specs.LineWords.{word_at_fault};
 ghost use Rattle.riichi_refusals.specs.Meaning as spec;
 
-use crate::words::{byte_words, entry_words, first_word_words, line_words, notation_words};
+use crate::words::{
+    MOST_FAULT_WORDS, byte_words, entry_words, first_word_words, line_words, notation_words,
+};
 use riichi_hand::{
     LineCode, LineFault, MOST_LINE, Place, Refusal, from_with, is_other_byte, name_text, next_word,
     word_of,
 };
+
+/// The bytes of the longest name of a key.
+pub const MOST_KEY: usize = "counters".len();
 
 /// What may stand at the fault, in a few words that have neither quotes nor backslashes: those that [`crate::push_refusal_lines`]
 /// writes.
@@ -19,7 +24,7 @@ pub fn refusal_words(line: &[u8], refusal: &Refusal<'_>) -> &'static str
     requires from { option_map (λ from. from.now) refusal.now.from
         ≡ fault_from refusal.now.fault line.now }
     ensures value { result.now ≡ spec.refusal_words line.now refusal.now.fault }
-    ensures short { length result.now ≤ 120 }
+    ensures short { length result.now ≤ MOST_FAULT_WORDS }
 {
     match refusal.fault {
         LineFault::Line(code) => code_words(code, line, word_in(refusal)),
@@ -35,7 +40,7 @@ pub fn refusal_key(line: &[u8], refusal: &Refusal<'_>) -> Option<&'static str>
         ≡ fault_from refusal.now.fault line.now }
     ensures value { option_map (λ key. key.now) result
         ≡ spec.refusal_key line.now refusal.now.fault }
-    ensures short { IfSome result (λ key. length key.now ≤ 8) }
+    ensures short { IfSome result (λ key. length key.now ≤ MOST_KEY) }
 {
     match refusal.fault {
         LineFault::Line(code) => code_key(code, line, word_in(refusal)),
@@ -69,7 +74,7 @@ pub(crate) fn word_in<'a>(refusal: &Refusal<'a>) -> Option<&'a [u8]>
 fn code_words(code: LineCode, line: &[u8], word: Option<&[u8]>) -> &'static str
     requires word { option_map (λ word. word.now) word ≡ word_at_fault code line.now }
     ensures value { result.now ≡ spec.code_words code line.now }
-    ensures short { length result.now ≤ 120 }
+    ensures short { length result.now ≤ MOST_FAULT_WORDS }
 {
     match code {
         LineCode::H1 => foreign_words(line),
@@ -91,7 +96,7 @@ fn job_word<'a>(line: &'a [u8]) -> Option<&'a [u8]>
 #[tactic(auto, unfolding(crate::specs::Meaning::foreign_words))]
 fn foreign_words(line: &[u8]) -> &'static str
     ensures value { result.now ≡ spec.foreign_words line.now }
-    ensures short { length result.now ≤ 120 }
+    ensures short { length result.now ≤ MOST_FAULT_WORDS }
 {
     if line.len() > MOST_LINE {
         line_words(LineCode::H1)
@@ -122,7 +127,7 @@ pub(crate) fn foreign_at(line: &[u8]) -> Option<usize>
 fn code_key(code: LineCode, line: &[u8], word: Option<&[u8]>) -> Option<&'static str>
     requires word { option_map (λ word. word.now) word ≡ word_at_fault code line.now }
     ensures value { option_map (λ key. key.now) result ≡ spec.code_key code line.now }
-    ensures short { IfSome result (λ key. length key.now ≤ 8) }
+    ensures short { IfSome result (λ key. length key.now ≤ MOST_KEY) }
 {
     match code {
         LineCode::H6 => Some(missing_key(line)),
@@ -134,7 +139,7 @@ fn code_key(code: LineCode, line: &[u8], word: Option<&[u8]>) -> Option<&'static
 fn word_key(word: Option<&[u8]>) -> Option<&'static str>
     ensures value { option_map (λ key. key.now) result
         ≡ option_and_then spec.key_begun (option_map (λ word. word.now) word.entry) }
-    ensures short { IfSome result (λ key. length key.now ≤ 8) }
+    ensures short { IfSome result (λ key. length key.now ≤ MOST_KEY) }
 {
     key_begun(word?)
 }
@@ -142,7 +147,7 @@ fn word_key(word: Option<&[u8]>) -> Option<&'static str>
 /// The name of a key, where a word begins with it and its `=`.
 fn key_begun(word: &[u8]) -> Option<&'static str>
     ensures value { option_map (λ key. key.now) result ≡ spec.key_begun word.now }
-    ensures short { IfSome result (λ key. length key.now ≤ 8) }
+    ensures short { IfSome result (λ key. length key.now ≤ MOST_KEY) }
 {
     if word.starts_with(b"on=") {
         Some("on")

@@ -5,19 +5,22 @@ ghost use Rattle.riichi_hand.specs.Places.{fault_from};
 ghost use Rattle.riichi_refusals.specs.LineWords.{word_at_fault};
 ghost use Rattle.riichi_refusals.specs.Refusal as spec;
 
-use crate::meaning::{foreign_at, missing_key, refusal_words, word_in};
-use crate::shown::{front, push_marked, push_shown};
-use arrayvec::ArrayString;
+use crate::meaning::{MOST_KEY, foreign_at, missing_key, refusal_words, word_in};
+use crate::shown::{BEFORE, MOST_MARKED, MOST_SHOWN, SHOWN, front, push_marked, push_shown};
+use crate::words::MOST_FAULT_WORDS;
 use riichi_hand::{LineCode, LineFault, MOST_LINE, Refusal, key_of};
+use riichi_text::{ANSWER_ROOM, AnswerText};
 
-/// How many bytes of a word are shown.
-const SHOWN: usize = 72;
+/// The bytes of the longest lines of a refusal: a word that is at fault with a mark below it.
+pub const MOST_REFUSAL: usize = MOST_MARKED;
+
+const MOST_NAMED_WORD: usize = MOST_SHOWN + ": ".len();
 
 /// Writes the lines of a refusal: the word of the line that is at fault, and what may stand there. All that it writes is
 /// printable, and each of its lines begins with two spaces.
 #[tactic(auto, unfolding(crate::specs::Refusal::refusal_lines, crate::specs::Refusal::fault_lines))]
-pub fn push_refusal_lines(text: &mut ArrayString<3072>, line: &[u8], refusal: &Refusal<'_>)
-    requires room { array_string_len text.old + 2930 ≤ 3072 }
+pub fn push_refusal_lines(text: &mut AnswerText, line: &[u8], refusal: &Refusal<'_>)
+    requires room { array_string_len text.old + MOST_REFUSAL ≤ ANSWER_ROOM }
     requires from { option_map (λ from. from.now) refusal.now.from
         ≡ fault_from refusal.now.fault line.now }
     ensures { text.new.bytes ≡ text.old.bytes ++ spec.refusal_lines line.now refusal.now.fault }
@@ -38,15 +41,15 @@ pub fn push_refusal_lines(text: &mut ArrayString<3072>, line: &[u8], refusal: &R
 
 #[tactic(auto, unfolding(crate::specs::Refusal::code_lines))]
 fn push_code_lines(
-    text: &mut ArrayString<3072>,
+    text: &mut AnswerText,
     code: LineCode,
     line: &[u8],
     word: Option<&[u8]>,
     words: &str,
 )
-    requires room { array_string_len text.old + 2930 ≤ 3072 }
+    requires room { array_string_len text.old + MOST_REFUSAL ≤ ANSWER_ROOM }
     requires word { option_map (λ word. word.now) word ≡ word_at_fault code line.now }
-    requires words { length words.now ≤ 120 }
+    requires words { length words.now ≤ MOST_FAULT_WORDS }
     ensures { text.new.bytes ≡ text.old.bytes ++ spec.code_lines code line.now words.now }
 {
     match code {
@@ -58,9 +61,9 @@ fn push_code_lines(
 
 /// Writes a word that is at fault, and what may stand there.
 #[tactic(auto, unfolding(crate::specs::Refusal::word_line))]
-fn push_word_line(text: &mut ArrayString<3072>, word: Option<&[u8]>, words: &str)
-    requires room { array_string_len text.old + 600 ≤ 3072 }
-    requires words { length words.now ≤ 120 }
+fn push_word_line(text: &mut AnswerText, word: Option<&[u8]>, words: &str)
+    requires room { array_string_len text.old + MOST_REFUSAL ≤ ANSWER_ROOM }
+    requires words { length words.now ≤ MOST_FAULT_WORDS }
     ensures { text.new.bytes
         ≡ text.old.bytes ++ spec.word_line (option_map (λ word. word.now) word.entry) words.now }
 {
@@ -71,11 +74,11 @@ fn push_word_line(text: &mut ArrayString<3072>, word: Option<&[u8]>, words: &str
 }
 
 #[tactic(auto, unfolding(crate::specs::Refusal::named_word))]
-fn push_named_word(text: &mut ArrayString<3072>, word: Option<&[u8]>)
-    requires { array_string_len text.old + 290 ≤ 3072 }
+fn push_named_word(text: &mut AnswerText, word: Option<&[u8]>)
+    requires { array_string_len text.old + MOST_NAMED_WORD ≤ ANSWER_ROOM }
     ensures bytes { text.new.bytes
         ≡ text.old.bytes ++ spec.named_word (option_map (λ word. word.now) word.entry) }
-    ensures len { array_string_len text.new ≤ array_string_len text.old + 290 }
+    ensures len { array_string_len text.new ≤ array_string_len text.old + MOST_NAMED_WORD }
 {
     if let Some(word) = word {
         push_shown(text, front(word, SHOWN));
@@ -85,9 +88,9 @@ fn push_named_word(text: &mut ArrayString<3072>, word: Option<&[u8]>)
 
 /// Shows the place of the first byte that is no printable ASCII. A line that is too long isn't shown.
 #[tactic(auto, unfolding(crate::specs::Refusal::foreign_lines))]
-fn push_foreign_lines(text: &mut ArrayString<3072>, line: &[u8], words: &str)
-    requires room { array_string_len text.old + 600 ≤ 3072 }
-    requires words { length words.now ≤ 120 }
+fn push_foreign_lines(text: &mut AnswerText, line: &[u8], words: &str)
+    requires room { array_string_len text.old + MOST_REFUSAL ≤ ANSWER_ROOM }
+    requires words { length words.now ≤ MOST_FAULT_WORDS }
     ensures { text.new.bytes ≡ text.old.bytes ++ spec.foreign_lines line.now words.now }
 {
     if line.len() > MOST_LINE {
@@ -99,9 +102,9 @@ fn push_foreign_lines(text: &mut ArrayString<3072>, line: &[u8], words: &str)
 
 /// Tells the first key that a win must have and that no word gives.
 #[tactic(auto, using(riichi_text::proofs::Pieces::pushed_five), unfolding(crate::specs::Refusal::missing_line))]
-fn push_missing_line(text: &mut ArrayString<3072>, line: &[u8], words: &str)
-    requires room { array_string_len text.old + 600 ≤ 3072 }
-    requires words { length words.now ≤ 120 }
+fn push_missing_line(text: &mut AnswerText, line: &[u8], words: &str)
+    requires room { array_string_len text.old + MOST_REFUSAL ≤ ANSWER_ROOM }
+    requires words { length words.now ≤ MOST_FAULT_WORDS }
     ensures { text.new.bytes ≡ text.old.bytes ++ spec.missing_line line.now words.now }
 {
     text.push_str("  ");
@@ -113,18 +116,12 @@ fn push_missing_line(text: &mut ArrayString<3072>, line: &[u8], words: &str)
 
 /// Shows the place of a text's fault in its word.
 #[tactic(auto, unfolding(crate::specs::Refusal::notation_lines))]
-fn push_notation_lines(
-    text: &mut ArrayString<3072>,
-    place: usize,
-    key: &[u8],
-    word: &[u8],
-    words: &str,
-)
-    requires room { array_string_len text.old + 600 ≤ 3072 }
-    requires key { length key.now ≤ 5 }
-    requires words { length words.now ≤ 120 }
+fn push_notation_lines(text: &mut AnswerText, place: usize, key: &[u8], word: &[u8], words: &str)
+    requires room { array_string_len text.old + MOST_REFUSAL ≤ ANSWER_ROOM }
+    requires key { length key.now ≤ MOST_KEY }
+    requires words { length words.now ≤ MOST_FAULT_WORDS }
     ensures { text.new.bytes
         ≡ text.old.bytes ++ spec.notation_lines place key.now word.now words.now }
 {
-    push_marked(text, word, key.len() + place.min(word.len()), 36, words);
+    push_marked(text, word, key.len() + place.min(word.len()), BEFORE, words);
 }

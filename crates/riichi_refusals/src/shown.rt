@@ -3,24 +3,41 @@ ghost use Rattle.std.specs.Prelude.{◌≡◌, ◌+◌, ◌/◌, ◌%◌, ◌≤
 ghost use Rattle.arrayvec.specs.ArrayString.{array_string_len};
 ghost use Rattle.riichi_refusals.specs.Shown as spec;
 
-use arrayvec::ArrayString;
+use crate::words::MOST_FAULT_WORDS;
 use riichi_hand::is_other_byte;
+use riichi_text::{ANSWER_ROOM, AnswerText};
 
-/// How many bytes are shown before a place.
-const BEFORE: usize = 36;
+/// How many bytes are shown before a place, and at the most from it on.
+pub(crate) const BEFORE: usize = 36;
+
+/// How many bytes of a word are shown.
+pub(crate) const SHOWN: usize = BEFORE + BEFORE;
+
+/// The bytes of a byte that is no printable ASCII, as it is shown.
+const MOST_BYTE: usize = "\\x1f".len();
+
+/// The bytes of what is shown of a word.
+pub(crate) const MOST_SHOWN: usize = SHOWN * MOST_BYTE;
+
+const MOST_SHOWN_LINE: usize = "  ".len() + MOST_SHOWN + "\n".len();
+
+const MOST_MARK_LINE: usize = "  ".len() + BEFORE + "^ ".len() + MOST_FAULT_WORDS + "\n".len();
+
+/// The bytes of the longest marked lines.
+pub(crate) const MOST_MARKED: usize = MOST_SHOWN_LINE + MOST_MARK_LINE;
 
 /// Writes what stands around a place, and below it a mark under the place with what may stand there.
 #[tactic(auto, unfolding(crate::specs::Shown::marked_lines))]
 pub(crate) fn push_marked(
-    out: &mut ArrayString<3072>,
+    out: &mut AnswerText,
     text: &[u8],
     place: usize,
     after: usize,
     words: &str,
 )
-    requires room { array_string_len out.old + 600 ≤ 3072 }
-    requires after { after ≤ 36 }
-    requires words { length words.now ≤ 120 }
+    requires room { array_string_len out.old + MOST_MARKED ≤ ANSWER_ROOM }
+    requires after { after ≤ BEFORE }
+    requires words { length words.now ≤ MOST_FAULT_WORDS }
     ensures { out.new.bytes ≡ out.old.bytes ++ spec.marked_lines after place text.now words.now }
 {
     push_shown_line(out, around(text, place, after));
@@ -28,11 +45,11 @@ pub(crate) fn push_marked(
 }
 
 #[tactic(auto, unfolding(crate::specs::Shown::shown_line))]
-fn push_shown_line(out: &mut ArrayString<3072>, text: &[u8])
-    requires few { length text.now ≤ 72 }
-    requires room { array_string_len out.old + 291 ≤ 3072 }
+fn push_shown_line(out: &mut AnswerText, text: &[u8])
+    requires few { length text.now ≤ SHOWN }
+    requires room { array_string_len out.old + MOST_SHOWN_LINE ≤ ANSWER_ROOM }
     ensures bytes { out.new.bytes ≡ out.old.bytes ++ spec.shown_line text.now }
-    ensures len { array_string_len out.new ≤ array_string_len out.old + 291 }
+    ensures len { array_string_len out.new ≤ array_string_len out.old + MOST_SHOWN_LINE }
 {
     out.push_str("  ");
     push_shown(out, text);
@@ -40,10 +57,10 @@ fn push_shown_line(out: &mut ArrayString<3072>, text: &[u8])
 }
 
 #[tactic(auto, using(riichi_text::proofs::Pieces::pushed_five), unfolding(crate::specs::Shown::mark_line))]
-fn push_mark_line(out: &mut ArrayString<3072>, column: usize, words: &str)
-    requires column { column ≤ 36 }
-    requires words { length words.now ≤ 120 }
-    requires room { array_string_len out.old + 161 ≤ 3072 }
+fn push_mark_line(out: &mut AnswerText, column: usize, words: &str)
+    requires column { column ≤ BEFORE }
+    requires words { length words.now ≤ MOST_FAULT_WORDS }
+    requires room { array_string_len out.old + MOST_MARK_LINE ≤ ANSWER_ROOM }
     ensures { out.new.bytes ≡ out.old.bytes ++ spec.mark_line column words.now }
 {
     out.push_str("  ");
@@ -53,11 +70,11 @@ fn push_mark_line(out: &mut ArrayString<3072>, column: usize, words: &str)
     out.push_str("\n");
 }
 
-/// Of a text up to 36 bytes before a place, and some from it on.
+/// Of a text up to `BEFORE` bytes before a place, and some from it on.
 fn around(text: &[u8], place: usize, after: usize) -> &[u8]
-    requires { after ≤ 36 }
+    requires { after ≤ BEFORE }
     ensures value { result.now ≡ spec.around after place text.now }
-    ensures short { length result.now ≤ 72 }
+    ensures short { length result.now ≤ SHOWN }
 {
     let from = place.saturating_sub(BEFORE);
     front(without_front(text, from), place - from + after)
@@ -86,11 +103,11 @@ pub(crate) fn front(text: &[u8], most: usize) -> &[u8]
 }
 
 /// Writes a text whose bytes outside printable ASCII stand as `\xNN`.
-pub(crate) fn push_shown(out: &mut ArrayString<3072>, text: &[u8])
-    requires few { length text.now ≤ 72 }
-    requires room { array_string_len out.old + 288 ≤ 3072 }
+pub(crate) fn push_shown(out: &mut AnswerText, text: &[u8])
+    requires few { length text.now ≤ SHOWN }
+    requires room { array_string_len out.old + MOST_SHOWN ≤ ANSWER_ROOM }
     ensures bytes { out.new.bytes ≡ out.old.bytes ++ spec.shown text.now }
-    ensures len { array_string_len out.new ≤ array_string_len out.old + 288 }
+    ensures len { array_string_len out.new ≤ array_string_len out.old + MOST_SHOWN }
 {
     for byte in text {
         push_shown_byte(out, *byte);
@@ -98,10 +115,10 @@ pub(crate) fn push_shown(out: &mut ArrayString<3072>, text: &[u8])
 }
 
 #[tactic(auto, unfolding(crate::specs::Shown::byte_text))]
-fn push_shown_byte(out: &mut ArrayString<3072>, byte: u8)
-    requires { array_string_len out.old + 4 ≤ 3072 }
+fn push_shown_byte(out: &mut AnswerText, byte: u8)
+    requires { array_string_len out.old + MOST_BYTE ≤ ANSWER_ROOM }
     ensures bytes { out.new.bytes ≡ out.old.bytes ++ spec.byte_text byte }
-    ensures len { array_string_len out.new ≤ array_string_len out.old + 4 }
+    ensures len { array_string_len out.new ≤ array_string_len out.old + MOST_BYTE }
 {
     if is_other_byte(byte) {
         push_escape(out, byte);
@@ -110,11 +127,11 @@ fn push_shown_byte(out: &mut ArrayString<3072>, byte: u8)
     }
 }
 
-fn push_escape(out: &mut ArrayString<3072>, byte: u8)
-    requires { array_string_len out.old + 4 ≤ 3072 }
+fn push_escape(out: &mut AnswerText, byte: u8)
+    requires { array_string_len out.old + MOST_BYTE ≤ ANSWER_ROOM }
     ensures bytes { out.new.bytes
         ≡ out.old.bytes ++ 92 ∷ 120 ∷ spec.hex_digit (byte / 16) ∷ spec.hex_digit (byte % 16) ∷ [] }
-    ensures len { array_string_len out.new ≤ array_string_len out.old + 4 }
+    ensures len { array_string_len out.new ≤ array_string_len out.old + MOST_BYTE }
 {
     push_byte(out, b'\\');
     push_byte(out, b'x');
@@ -134,8 +151,8 @@ fn hex_digit(number: u8) -> u8
     }
 }
 
-fn push_byte(out: &mut ArrayString<3072>, byte: u8)
-    requires room { array_string_len out.old + 1 ≤ 3072 }
+fn push_byte(out: &mut AnswerText, byte: u8)
+    requires room { array_string_len out.old + 1 ≤ ANSWER_ROOM }
     requires ascii { byte < 128 }
     ensures bytes { out.new.bytes ≡ out.old.bytes ++ byte ∷ [] }
     ensures len { array_string_len out.new ≡ array_string_len out.old + 1 }
@@ -143,11 +160,11 @@ fn push_byte(out: &mut ArrayString<3072>, byte: u8)
     out.push(byte as char);
 }
 
-fn push_spaces(out: &mut ArrayString<3072>, count: usize)
-    requires few { count ≤ 36 }
-    requires room { array_string_len out.old + 36 ≤ 3072 }
+fn push_spaces(out: &mut AnswerText, count: usize)
+    requires few { count ≤ BEFORE }
+    requires room { array_string_len out.old + BEFORE ≤ ANSWER_ROOM }
     ensures bytes { out.new.bytes ≡ out.old.bytes ++ replicate count 32 }
-    ensures len { array_string_len out.new ≤ array_string_len out.old + 36 }
+    ensures len { array_string_len out.new ≤ array_string_len out.old + BEFORE }
 {
     for turn in 0..count {
         push_byte(out, b' ');

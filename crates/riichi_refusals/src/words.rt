@@ -5,10 +5,13 @@ ghost use Rattle.riichi_refusals.specs.Faults as spec;
 use riichi_hand::{LineCode, LineFault};
 use riichi_tiles::NotationCode;
 
+/// The bytes of the longest words: the keys of a win.
+pub const MOST_FAULT_WORDS: usize = 117;
+
 /// What holds of every line without this fault, in a few words.
 pub fn fault_words(fault: &LineFault) -> &'static str
     ensures value { result.now ≡ spec.fault_words fault.now }
-    ensures short { length result.now ≤ 120 }
+    ensures short { length result.now ≤ MOST_FAULT_WORDS }
 {
     match fault {
         LineFault::Line(code) => line_words(*code),
@@ -18,7 +21,7 @@ pub fn fault_words(fault: &LineFault) -> &'static str
 
 pub(crate) fn line_words(code: LineCode) -> &'static str
     ensures value { result.now ≡ spec.line_words code }
-    ensures short { length result.now ≤ 120 }
+    ensures short { length result.now ≤ MOST_FAULT_WORDS }
 {
     match code {
         LineCode::H1 => "a line has at most 4096 bytes, all of them printable ASCII",
@@ -46,7 +49,7 @@ pub(crate) fn line_words(code: LineCode) -> &'static str
 
 pub(crate) fn notation_words(code: NotationCode) -> &'static str
     ensures value { result.now ≡ spec.notation_words code }
-    ensures short { length result.now ≤ 120 }
+    ensures short { length result.now ≤ MOST_FAULT_WORDS }
 {
     match code {
         NotationCode::N1 => "a text of tiles is not empty",
@@ -61,7 +64,7 @@ pub(crate) fn notation_words(code: NotationCode) -> &'static str
 /// What is asked of the first word.
 pub(crate) fn first_word_words(word: Option<&[u8]>) -> &'static str
     ensures value { result.now ≡ spec.first_word_words (option_map (λ word. word.now) word.entry) }
-    ensures short { length result.now ≤ 120 }
+    ensures short { length result.now ≤ MOST_FAULT_WORDS }
 {
     match word {
         Some(word) => if word.starts_with(b"rules") {
@@ -79,7 +82,7 @@ pub(crate) fn entry_words(job: Option<&[u8]>, word: Option<&[u8]>) -> &'static s
     ensures value { result.now
         ≡ spec.entry_words (option_map (λ job. job.now) job.entry) (option_map
         (λ word. word.now) word.entry) }
-    ensures short { length result.now ≤ 120 }
+    ensures short { length result.now ≤ MOST_FAULT_WORDS }
 {
     match (job, word) {
         (Some(job), Some(word)) => if job.starts_with(b"win") {
@@ -94,7 +97,7 @@ pub(crate) fn entry_words(job: Option<&[u8]>, word: Option<&[u8]>) -> &'static s
 /// The keys of a job.
 fn keys_words(job: &[u8]) -> &'static str
     ensures value { result.now ≡ spec.keys_words job.now }
-    ensures short { length result.now ≤ 120 }
+    ensures short { length result.now ≤ MOST_FAULT_WORDS }
 {
     if job.starts_with(b"waits") {
         "after the hand of waits stands open= alone"
@@ -108,7 +111,7 @@ fn keys_words(job: &[u8]) -> &'static str
 /// The values of a key of a win, where another value of it is a fault; else the keys.
 fn win_words(word: &[u8]) -> &'static str
     ensures value { result.now ≡ spec.win_words word.now }
-    ensures short { length result.now ≤ 120 }
+    ensures short { length result.now ≤ MOST_FAULT_WORDS }
 {
     if word.starts_with(b"by=") {
         "a win is by ron or tsumo"
@@ -133,7 +136,7 @@ fn win_words(word: &[u8]) -> &'static str
 #[tactic(auto, unfolding(crate::specs::Faults::byte_words))]
 pub(crate) fn byte_words(line: &[u8], place: usize) -> &'static str
     ensures value { result.now ≡ spec.byte_words line.now place }
-    ensures short { length result.now ≤ 120 }
+    ensures short { length result.now ≤ MOST_FAULT_WORDS }
 {
     if line.starts_with(b"\xef\xbb\xbf") {
         "a byte order mark stands here: save the text without it"

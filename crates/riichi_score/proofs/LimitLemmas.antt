@@ -8,6 +8,8 @@ use Rattle.riichi_yaku.specs.declared.table.Yaku.{Yaku}
 use Rattle.riichi_yaku.specs.Table.{every_yaku}
 use Rattle.riichi_yaku.specs.YakuSets.{contains, yaku_in}
 use Rattle.riichi_score.specs.Limits.{is_double, limits_in, limits_of}
+use Rattle.riichi_hand.specs.Rules.{is_on}
+use Rattle.riichi_hand.specs.declared.switch.Switch.TheVariants.{AddYakuman}
 
 two : (double : Bool) → cond double 2 1 ≤ 2
 two true = omega arith
@@ -27,5 +29,5 @@ pub few_limits : (reading : Reading) (win : WinParts) (set : ℕ) → limits_of 
 unfolding limits_of yaku_in
 few_limits reading win set =
     let yaku = filter (contains set) every_yaku in
-    of_set win.rules.add_yakuman (list_any (is_double reading win) yaku) (sum_by (limits_in reading win) yaku)
+    of_set (is_on AddYakuman win.rules) (list_any (is_double reading win) yaku) (sum_by (limits_in reading win) yaku)
     (omega (arith, limits-most reading win yaku, length-filter (contains set) every_yaku, count_by-le-length (contains set) every_yaku))

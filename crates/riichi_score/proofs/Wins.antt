@@ -13,6 +13,8 @@ use Rattle.riichi_hand.specs.declared.win.WinParts.{WinParts}
 use Rattle.riichi_hand.specs.Faults.{coded, first_fault}
 use Rattle.riichi_score.specs.Dora.{counted_ura}
 use Rattle.riichi_hand.specs.Win.{IsWinRecord, win_faults, copies_with_indicators, has_five_in, has_wrong_size, is_out_of_range}
+use Rattle.riichi_hand.specs.Rules.{is_on}
+use Rattle.riichi_hand.specs.declared.switch.Switch.TheVariants.{Ura}
 
 -- none of the first three faults
 pub record IsClear (a b c : Bool) : Type 0 where
@@ -42,7 +44,7 @@ no_more false ura = omega arith
 
 -- at most ten that count
 pub ten_counted : (win : WinParts) → IsWinRecord win → sum win.dora + sum (counted_ura win) ≤ 10
-ten_counted win h = omega (arith, ten_indicators win h, no_more win.rules.ura win.ura)
+ten_counted win h = omega (arith, ten_indicators win h, no_more (is_on Ura win.rules) win.ura)
 
 thirteen : (held melds : ℕ) (b c : Bool) → (not (eqb (held + 3 * melds) 13) || b || c) ≡ false → melds ≤ 4
 thirteen held melds b c h = grind (arith, nat_tests)

@@ -3,13 +3,14 @@ use Rattle.std.specs.Prelude.{ℕ, ◌+◌, ◌*◌, List, replicate, slice_inde
 use Rattle.std.specs.List.{sum, sum_by}
 use Rattle.riichi_tiles.specs.Dora.{indicated}
 use Rattle.riichi_tiles.specs.Melds.{every_kind}
-use Rattle.riichi_hand.specs.declared.house.House.{House}
+use Rattle.riichi_hand.specs.Rules.{Rules, is_on}
 use Rattle.riichi_hand.specs.declared.win.WinParts.{WinParts}
 use Rattle.riichi_hand.specs.Win.{copies_won}
+use Rattle.riichi_hand.specs.declared.switch.Switch.TheVariants.{RedFives, Ura}
 
 -- the indicators below, where the rules count them
 abbrev pub counted_ura : WinParts → List ℕ
-counted_ura win = if win.rules.ura then win.ura else replicate 34 0
+counted_ura win = if is_on Ura win.rules then win.ura else replicate 34 0
 
 -- how many indicators there are of a kind
 abbrev pub indicators : WinParts → ℕ → ℕ
@@ -20,8 +21,8 @@ abbrev pub kind_dora : WinParts → ℕ → ℕ
 kind_dora win kind = indicators win kind * copies_won win (indicated kind)
 
 -- each red five earns one han, where the rules have them; else it is a plain five
-abbrev pub red_dora : House → List ℕ → ℕ
-red_dora rules reds = if rules.red_fives then sum reds else 0
+abbrev pub red_dora : Rules → List ℕ → ℕ
+red_dora rules reds = if is_on RedFives rules then sum reds else 0
 
 -- those of every indicator, and of the red fives
 unfoldable pub dora_of : WinParts → ℕ

@@ -14,6 +14,8 @@ use Rattle.riichi_blocks.specs.Pairs.{pair_fu}
 use Rattle.riichi_blocks.specs.Kinds.{is_orphan}
 use Rattle.riichi_yaku.specs.Runs.{is_pinfu}
 use Rattle.riichi_blocks.specs.Waits.{wait_fu}
+use Rattle.riichi_hand.specs.Rules.{is_on}
+use Rattle.riichi_hand.specs.declared.switch.Switch.TheVariants.{KongDrawFu, OpenPinfuFu}
 
 -- concealed hand won by ron: 10
 abbrev pub ron_fu : WinParts → ℕ
@@ -21,7 +23,7 @@ ron_fu win = if are_concealed win.melds && is_ron win.by then 10 else 0
 
 -- a draw after a kong has no fu, where the rules say so
 abbrev pub is_bare_draw : WinParts → Bool
-is_bare_draw win = win.flags.rinshan && not win.rules.kong_draw_fu
+is_bare_draw win = win.flags.rinshan && not (is_on KongDrawFu win.rules)
 
 -- a self-draw, unless the hand has pinfu: 2
 abbrev pub self_draw_fu : Bool → WinParts → ℕ
@@ -45,7 +47,7 @@ fu_sum blocks reading done win =
 
 -- an open hand won by ron whose sum is 20: 10 more, where the rules say so
 abbrev pub open_fu : WinParts → ℕ → ℕ
-open_fu win sum = if not (are_concealed win.melds) && is_ron win.by && (sum == 20) && win.rules.open_pinfu_fu then 10 else 0
+open_fu win sum = if not (are_concealed win.melds) && is_ron win.by && (sum == 20) && is_on OpenPinfuFu win.rules then 10 else 0
 
 -- rounded up to the next ten
 abbrev pub up_to_ten : ℕ → ℕ

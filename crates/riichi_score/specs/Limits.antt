@@ -12,6 +12,8 @@ use Rattle.riichi_split.specs.declared.reading.Reading.TheVariants.{Standard, Se
 use Rattle.riichi_yaku.specs.declared.table.Yaku.{Yaku}
 use Rattle.riichi_yaku.specs.declared.table.Yaku.TheVariants as yaku
 use Rattle.riichi_yaku.specs.YakuSets.{yaku_in}
+use Rattle.riichi_hand.specs.Rules.{is_on}
+use Rattle.riichi_hand.specs.declared.switch.Switch.TheVariants.{AddYakuman, DoubleYakuman}
 
 -- the hand before the winning tile
 abbrev pub waiting_hand : WinParts → HandParts
@@ -37,7 +39,7 @@ is_rare reading win other = false
 
 -- these count as two, where the rules say so
 abbrev pub is_double : Reading → WinParts → Yaku → Bool
-is_double reading win yaku = win.rules.double_yakuman && is_rare reading win yaku
+is_double reading win yaku = is_on DoubleYakuman win.rules && is_rare reading win yaku
 
 abbrev pub limits_in : Reading → WinParts → Yaku → ℕ
 limits_in reading win yaku = if is_double reading win yaku then 2 else 1
@@ -45,5 +47,5 @@ limits_in reading win yaku = if is_double reading win yaku then 2 else 1
 -- the limits of a set of yakuman: the sum of all, where the rules add them; else those of the greatest
 unfoldable pub limits_of : Reading → WinParts → ℕ → ℕ
 limits_of reading win set =
-    if win.rules.add_yakuman then sum_by (limits_in reading win) (yaku_in set)
+    if is_on AddYakuman win.rules then sum_by (limits_in reading win) (yaku_in set)
     else (if list_any (is_double reading win) (yaku_in set) then 2 else 1)

@@ -5,13 +5,9 @@ ghost use Rattle.riichi_hand.specs.Win.{IsWinRecord};
 ghost use Rattle.riichi_score.specs.Best as spec;
 ghost use Rattle.riichi_score.specs.Scores.{completed_hand};
 
-use crate::dora;
-use crate::leading::Leading;
+use crate::leading::leading_reading;
 use crate::score::Score;
-use crate::worth::worth_of;
-use riichi_blocks::all_tiles;
 use riichi_hand::WinRecord;
-use riichi_split::Readings;
 use riichi_tiles::Counts;
 
 /// What a win is worth.
@@ -30,14 +26,7 @@ pub fn best(win: &WinRecord) -> WinAnswer
     ensures value { result ≡ spec.best_of win.now }
     ensures greatest { spec.IsBest win.now result }
 {
-    let dora = dora(win);
-    let tiles = all_tiles(win);
-    let hand = hand_of(win);
-    let mut best = Leading::NoWin;
-    for reading in Readings::new(&hand, &win.melds(), win.winning()) {
-        best = best.better(worth_of(&reading, &tiles, win, dora));
-    }
-    best.answer(win)
+    leading_reading(win).best.answer(win)
 }
 
 /// The concealed tiles with the winning tile.

@@ -3,7 +3,7 @@ ghost use Rattle.std.specs.Prelude.{◌≡◌, ◌+◌, ◌≤◌};
 ghost use Rattle.riichi_yaku.specs.YakuSets.{han_of};
 ghost use Rattle.riichi_score.specs.Base as spec;
 
-use riichi_hand::{RuleSet, Switch};
+use riichi_hand::{Rules, Switch};
 use riichi_yaku::YakuSet;
 
 /// The han of a counted hand: those of its set of yaku, and the dora.
@@ -16,7 +16,7 @@ pub fn han(yaku: YakuSet, concealed: bool, dora: u8) -> u8
 
 /// The base points of a counted hand. The rules say whether four han 30 fu and three han 60 fu are raised to 2000, and whether
 /// 13 han are a yakuman.
-pub fn base_points(rules: RuleSet, han: u8, fu: u8) -> u32
+pub fn base_points(rules: Rules, han: u8, fu: u8) -> u32
     ensures value { result ≡ spec.base_of rules han fu }
     ensures most { result ≤ 8000 }
 {
@@ -31,7 +31,7 @@ pub fn base_points(rules: RuleSet, han: u8, fu: u8) -> u32
 }
 
 /// The base points of 13 han and more.
-fn most_base(rules: RuleSet) -> u32
+fn most_base(rules: Rules) -> u32
     ensures { result ≡ spec.most_base rules }
 {
     if rules.has(Switch::CountedYakuman) {
@@ -42,7 +42,7 @@ fn most_base(rules: RuleSet) -> u32
 }
 
 /// The base points of at most four han.
-fn low_base(rules: RuleSet, han: u8, fu: u8) -> u32
+fn low_base(rules: Rules, han: u8, fu: u8) -> u32
     requires { han ≤ 4 }
     ensures value { result ≡ spec.low_base rules han fu }
     ensures most { result ≤ 2000 }
@@ -69,7 +69,7 @@ pub fn product_of(han: u8, fu: u8) -> u32
 }
 
 /// Whether the rules raise so many han and fu to a mangan.
-pub fn is_raised(rules: RuleSet, han: u8, fu: u8) -> bool
+pub fn is_raised(rules: Rules, han: u8, fu: u8) -> bool
     ensures { result ≡ spec.is_raised rules han fu }
 {
     rules.has(Switch::Raise) && ((han == 4 && fu == 30) || (han == 3 && fu == 60))

@@ -5,7 +5,7 @@ ghost use Rattle.riichi_tiles.specs.Melds.{every_kind};
 ghost use Rattle.riichi_tiles.specs.Tiles.{IsCounts};
 ghost use Rattle.riichi_score.specs.Dora as spec;
 
-use riichi_hand::{RuleSet, Switch, WinRecord};
+use riichi_hand::{Rules, Switch, WinRecord};
 use riichi_tiles::{Counts, Kind, KindSet, Reds, dora_of};
 
 /// The han of a hand's dora: for each tile of `dora` and `ura` one for each copy of the kind that it
@@ -19,7 +19,7 @@ pub fn dora(win: &WinRecord) -> u8
 }
 
 /// The han of the red fives, which are plain fives under rules that have none.
-pub fn red_dora(rules: RuleSet, reds: &Reds) -> u8
+pub fn red_dora(rules: Rules, reds: &Reds) -> u8
     ensures value { result ≡ spec.red_dora rules reds.now }
     ensures most { result ≤ 12 }
 {

@@ -34,5 +34,5 @@ pub use read::{BestReading, best_reading};
 pub use riichi_yaku::{Yaku, YakuSet, yaku_of as yaku};
 pub use score::Score;
 pub use settlement::{payment, up};
-pub use text::{push_win, win_text};
+pub use text::{MOST_WIN, push_win, win_text};
 pub use worth::score_of;

@@ -4,23 +4,37 @@ ghost use Rattle.arrayvec.specs.ArrayString.{array_string_len};
 ghost use Rattle.riichi_score.specs.Text as spec;
 
 use crate::{Payment, Score, WinAnswer};
-use arrayvec::ArrayString;
-use riichi_text::push_number;
-use riichi_yaku::push_words;
+use riichi_text::{ANSWER_ROOM, AnswerText, MOST_U8, MOST_U32, push_number};
+use riichi_yaku::{Yaku, push_words};
+
+/// The bytes of the longest answer, of a hand that has every yaku.
+pub const MOST_WIN: usize = "won ".len()
+    + MOST_WORTH
+    + MOST_PAYMENT
+    + " gain ".len()
+    + MOST_U32
+    + Yaku::MOST_WORDS
+    + MOST_DORA;
+
+const MOST_WORTH: usize = MOST_U8 + " han ".len() + MOST_U8 + " fu ".len();
+
+const MOST_PAYMENT: usize = MOST_U32 + "/".len() + MOST_U32;
+
+const MOST_DORA: usize = " dora ".len() + MOST_U8;
 
 /// The text of an answer, without the line's end.
-pub fn win_text(answer: &WinAnswer) -> ArrayString<3072>
+pub fn win_text(answer: &WinAnswer) -> AnswerText
     ensures { result.bytes ≡ spec.win_text answer.now }
 {
-    let mut text = ArrayString::new();
+    let mut text = AnswerText::new();
     push_win(&mut text, answer);
     text
 }
 
 /// Writes the answer behind a text, without the line's end. A text that is kept need not be made anew for each answer.
 #[tactic(auto, unfolding(crate::specs::Text::win_text))]
-pub fn push_win(text: &mut ArrayString<3072>, answer: &WinAnswer)
-    requires { array_string_len text.old + 680 ≤ 3072 }
+pub fn push_win(text: &mut AnswerText, answer: &WinAnswer)
+    requires { array_string_len text.old + MOST_WIN ≤ ANSWER_ROOM }
     ensures { text.new.bytes ≡ text.old.bytes ++ spec.win_text answer.now }
 {
     match answer {
@@ -30,8 +44,8 @@ pub fn push_win(text: &mut ArrayString<3072>, answer: &WinAnswer)
     }
 }
 
-fn push_score(text: &mut ArrayString<3072>, score: &Score)
-    requires { array_string_len text.old + 674 ≤ 3072 }
+fn push_score(text: &mut AnswerText, score: &Score)
+    requires { array_string_len text.old + MOST_WIN ≤ ANSWER_ROOM }
     ensures { text.new.bytes ≡ text.old.bytes ++ spec.score_text score.now }
 {
     text.push_str("won ");
@@ -43,10 +57,10 @@ fn push_score(text: &mut ArrayString<3072>, score: &Score)
     push_dora(text, score.dora);
 }
 
-fn push_worth(text: &mut ArrayString<3072>, score: &Score)
-    requires { array_string_len text.old + 15 ≤ 3072 }
+fn push_worth(text: &mut AnswerText, score: &Score)
+    requires { array_string_len text.old + MOST_WORTH ≤ ANSWER_ROOM }
     ensures bytes { text.new.bytes ≡ text.old.bytes ++ spec.worth_text score.now }
-    ensures len { array_string_len text.new ≤ array_string_len text.old + 15 }
+    ensures len { array_string_len text.new ≤ array_string_len text.old + MOST_WORTH }
 {
     if score.yaku.is_yakuman() {
         text.push_str("yakuman ");
@@ -58,10 +72,10 @@ fn push_worth(text: &mut ArrayString<3072>, score: &Score)
     }
 }
 
-fn push_payment(text: &mut ArrayString<3072>, payment: &Payment)
-    requires { array_string_len text.old + 21 ≤ 3072 }
+fn push_payment(text: &mut AnswerText, payment: &Payment)
+    requires { array_string_len text.old + MOST_PAYMENT ≤ ANSWER_ROOM }
     ensures bytes { text.new.bytes ≡ text.old.bytes ++ spec.payment_text payment.now }
-    ensures len { array_string_len text.new ≤ array_string_len text.old + 21 }
+    ensures len { array_string_len text.new ≤ array_string_len text.old + MOST_PAYMENT }
 {
     match payment {
         Payment::Ron { points } => push_number(text, *points),
@@ -77,8 +91,8 @@ fn push_payment(text: &mut ArrayString<3072>, payment: &Payment)
     }
 }
 
-fn push_dora(text: &mut ArrayString<3072>, dora: u8)
-    requires { array_string_len text.old + 9 ≤ 3072 }
+fn push_dora(text: &mut AnswerText, dora: u8)
+    requires { array_string_len text.old + MOST_DORA ≤ ANSWER_ROOM }
     ensures { text.new.bytes ≡ text.old.bytes ++ spec.dora_text dora }
 {
     if dora > 0 {

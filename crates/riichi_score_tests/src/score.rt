@@ -1,6 +1,6 @@
 use crate::facts::{holds, same, same_in};
 use arrayvec::ArrayString;
-use riichi_hand::{Job, RuleSet, Rules, Switch, fault_text, read_line};
+use riichi_hand::{Job, Rules, Switch, fault_text, read_line};
 use riichi_score::*;
 use riichi_split::Reading;
 use riichi_tiles::Reds;
@@ -147,8 +147,8 @@ fn several_readings(rt: HostRuntime) -> Result<(), Fail> {
 /// The answers under the first profile with one rule turned.
 fn answers_with(rt: &impl Abort, rows: &[(Switch, bool, &str, &str)]) -> Result<(), Fail> {
     for (switch, is_on, line, text) in rows {
-        let house = Rules::One.house().with(*switch, *is_on);
-        answers(rt, Rules::House(house), &[(*line, *text)])?;
+        let rules = Rules::One.with(*switch, *is_on);
+        answers(rt, rules, &[(*line, *text)])?;
     }
     Ok(())
 }
@@ -290,12 +290,11 @@ fn rules_of_fu_and_open_hands(rt: HostRuntime) -> Result<(), Fail> {
 }
 
 #[test]
-fn profiles_are_rules_of_a_house(rt: HostRuntime) -> Result<(), Fail> {
+fn profiles_are_choices_of_rules(rt: HostRuntime) -> Result<(), Fail> {
     let second = Rules::One
-        .house()
         .with(Switch::RedFives, true)
         .with(Switch::Raise, true);
-    holds(&rt, second == Rules::Two.house());
+    holds(&rt, second == Rules::Two);
     for switch in Switch::ALL {
         holds(&rt, !second.with(switch, false).has(switch));
         holds(&rt, second.with(switch, true).has(switch));
@@ -416,8 +415,8 @@ fn the_second_profile(rt: HostRuntime) -> Result<(), Fail> {
 
 #[test]
 fn base_points_and_gain(rt: HostRuntime) -> Result<(), Fail> {
-    let one = RuleSet::of(Rules::One);
-    let two = RuleSet::of(Rules::Two);
+    let one = Rules::One;
+    let two = Rules::Two;
     same(&rt, base_points(one, 4, 30), 1920);
     same(&rt, base_points(two, 4, 30), 2000);
     same(

@@ -2,7 +2,7 @@ use crate::facts::{holds, same};
 use crate::split::tiles;
 use arrayvec::ArrayString;
 use riichi_blocks::{all_tiles, blocks_of};
-use riichi_hand::{By, Flags, RuleSet, Rules, WinParts, WinRecord, Wind};
+use riichi_hand::{By, Flags, Rules, WinParts, WinRecord, Wind};
 use riichi_split::Readings;
 use riichi_tiles::{Counts, Kind, Meld, Melds, Reds};
 use riichi_yaku::*;
@@ -15,7 +15,7 @@ fn won(text: &[u8], winning: Kind, melds: Melds, by: By) -> Result<WinRecord, Fa
         concealed.remove(winning);
     }
     let win = WinRecord::new(WinParts {
-        rules: RuleSet::of(Rules::One),
+        rules: Rules::One,
         concealed,
         melds,
         winning,

@@ -10,8 +10,7 @@ use crate::discard::Discard;
 use crate::discard_list::DiscardList;
 use crate::live_list::LiveList;
 use crate::shape_answer::ShapeAnswer;
-use arrayvec::ArrayString;
-use riichi_text::{push_kind, push_number};
+use riichi_text::{ANSWER_ROOM, AnswerText, MOST_I8, MOST_U32, push_kind, push_number};
 use riichi_tiles::KindSet;
 
 /// Each kind as it stands before its live copies, in four bytes.
@@ -21,26 +20,41 @@ const KINDS: &str =
 /// A number of live copies is one of these digits.
 const DIGITS: &str = "01234";
 
+/// The bytes of a kind with its live copies.
+const MOST_PAIR: usize = " 1m:4".len();
+
+const MOST_PAIRS: usize = 34 * MOST_PAIR;
+
+const MOST_ACCEPTED: usize = " accepts".len() + MOST_PAIRS + " live ".len() + MOST_U32;
+
+const MOST_DISCARD: usize = " discard 1m".len() + MOST_ACCEPTED;
+
+/// Fourteen discards are longer than what one hand accepts.
+const MOST_ACCEPTS: usize = 14 * MOST_DISCARD;
+
+/// The bytes of the longest answer.
+pub const MOST_SHAPE: usize = "shanten ".len() + MOST_I8 + MOST_ACCEPTS;
+
 /// Writes a kind with its live copies.
 #[inline(always)]
-fn push_pair(text: &mut ArrayString<3072>, kind: usize, live: u8)
-    requires room { array_string_len text.old + 5 ≤ 3072 }
+fn push_pair(text: &mut AnswerText, kind: usize, live: u8)
+    requires room { array_string_len text.old + MOST_PAIR ≤ ANSWER_ROOM }
     requires kind { kind < 34 }
     requires live { live ≤ 4 }
     ensures bytes { text.new.bytes ≡ text.old.bytes ++ spec.pair_text (kind, live) }
-    ensures len { array_string_len text.new ≡ array_string_len text.old + 5 }
+    ensures len { array_string_len text.new ≡ array_string_len text.old + MOST_PAIR }
 {
     text.push_str(&KINDS[4 * kind..4 * kind + 4]);
     text.push_str(&DIGITS[live as usize..live as usize + 1]);
 }
 
 /// Writes each kind that has live copies.
-fn push_pairs(text: &mut ArrayString<3072>, copies: &[u8; 34])
-    requires room { array_string_len text.old + 170 ≤ 3072 }
+fn push_pairs(text: &mut AnswerText, copies: &[u8; 34])
+    requires room { array_string_len text.old + MOST_PAIRS ≤ ANSWER_ROOM }
     requires few { (k : ℕ) → slice_index copies.now k ≤ 4 }
     ensures bytes { text.new.bytes
         ≡ text.old.bytes ++ flat_map spec.pair_text (pairs_of copies.now) }
-    ensures len { array_string_len text.new ≤ array_string_len text.old + 170 }
+    ensures len { array_string_len text.new ≤ array_string_len text.old + MOST_PAIRS }
 {
     let live = KindSet::of(copies);
     let mut kind = live.first_from(0);
@@ -52,10 +66,10 @@ fn push_pairs(text: &mut ArrayString<3072>, copies: &[u8; 34])
 
 /// Writes the kinds of a list, or a dash, and how many tiles are live in all.
 #[tactic(auto, unfolding(crate::specs::Text::list_text))]
-fn push_accepted(text: &mut ArrayString<3072>, list: &LiveList)
-    requires { array_string_len text.old + 194 ≤ 3072 }
+fn push_accepted(text: &mut AnswerText, list: &LiveList)
+    requires { array_string_len text.old + MOST_ACCEPTED ≤ ANSWER_ROOM }
     ensures bytes { text.new.bytes ≡ text.old.bytes ++ spec.list_text list.now }
-    ensures len { array_string_len text.new ≤ array_string_len text.old + 194 }
+    ensures len { array_string_len text.new ≤ array_string_len text.old + MOST_ACCEPTED }
 {
     let live = list.live();
     text.push_str(" accepts");
@@ -69,10 +83,10 @@ fn push_accepted(text: &mut ArrayString<3072>, list: &LiveList)
 }
 
 #[tactic(auto, unfolding(crate::specs::Text::discard_text))]
-fn push_discard(text: &mut ArrayString<3072>, discard: &Discard)
-    requires { array_string_len text.old + 205 ≤ 3072 }
+fn push_discard(text: &mut AnswerText, discard: &Discard)
+    requires { array_string_len text.old + MOST_DISCARD ≤ ANSWER_ROOM }
     ensures bytes { text.new.bytes ≡ text.old.bytes ++ spec.discard_text discard.now }
-    ensures len { array_string_len text.new ≤ array_string_len text.old + 205 }
+    ensures len { array_string_len text.new ≤ array_string_len text.old + MOST_DISCARD }
 {
     text.push_str(" discard ");
     push_kind(text, discard.kind);
@@ -80,8 +94,8 @@ fn push_discard(text: &mut ArrayString<3072>, discard: &Discard)
 }
 
 #[tactic(auto, using(riichi_text::proofs::Pieces::flat_map_get, riichi_text::proofs::Pieces::some_there))]
-fn push_discards(text: &mut ArrayString<3072>, discards: &DiscardList)
-    requires { array_string_len text.old + 2870 ≤ 3072 }
+fn push_discards(text: &mut AnswerText, discards: &DiscardList)
+    requires { array_string_len text.old + MOST_ACCEPTS ≤ ANSWER_ROOM }
     ensures { text.new.bytes ≡ text.old.bytes ++ flat_map spec.discard_text discards.now }
 {
     for place in 0..discards.len() {
@@ -92,8 +106,8 @@ fn push_discards(text: &mut ArrayString<3072>, discards: &DiscardList)
 }
 
 #[tactic(auto, unfolding(crate::specs::Text::accepts_text))]
-fn push_accepts(text: &mut ArrayString<3072>, accepts: &Accepts)
-    requires { array_string_len text.old + 2870 ≤ 3072 }
+fn push_accepts(text: &mut AnswerText, accepts: &Accepts)
+    requires { array_string_len text.old + MOST_ACCEPTS ≤ ANSWER_ROOM }
     ensures { text.new.bytes ≡ text.old.bytes ++ spec.accepts_text accepts.now }
 {
     match accepts {
@@ -103,10 +117,10 @@ fn push_accepts(text: &mut ArrayString<3072>, accepts: &Accepts)
 }
 
 /// The answer on one line, without the line's end.
-pub fn shape_text(answer: &ShapeAnswer) -> ArrayString<3072>
+pub fn shape_text(answer: &ShapeAnswer) -> AnswerText
     ensures { result.bytes ≡ spec.shape_text answer.now }
 {
-    let mut text = ArrayString::new();
+    let mut text = AnswerText::new();
     push_shape(&mut text, answer);
     text
 }
@@ -114,8 +128,8 @@ pub fn shape_text(answer: &ShapeAnswer) -> ArrayString<3072>
 /// Writes the answer behind a text, without the line's end. A text that is kept need not be made anew
 /// for each answer.
 #[tactic(auto, unfolding(crate::specs::Text::shape_text))]
-pub fn push_shape(text: &mut ArrayString<3072>, answer: &ShapeAnswer)
-    requires { array_string_len text.old + 2890 ≤ 3072 }
+pub fn push_shape(text: &mut AnswerText, answer: &ShapeAnswer)
+    requires { array_string_len text.old + MOST_SHAPE ≤ ANSWER_ROOM }
     ensures { text.new.bytes ≡ text.old.bytes ++ spec.shape_text answer.now }
 {
     text.push_str("shanten ");

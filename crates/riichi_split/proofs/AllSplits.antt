@@ -55,7 +55,7 @@ beside-is : (c : List ℕ) (wanted p x : ℕ) (bs : List Block) → 2 ≤ get_or
 beside-is c wanted p x bs h e =
     cond-false (ltb (get_or c p 0) 2) None (cut_from 0 (set c p (get_or c p 0 - 2)) 0 0 wanted x) (le-ltb (get_or c p 0) 2 h) ∙ e
 
-small-by : (c : List ℕ) → ((k : ℕ) → get_or c k 0 ≤ 4) → AllByRecursion (λ n. n ≤ 4) c
+pub small-by : (c : List ℕ) → ((k : ℕ) → get_or c k 0 ≤ 4) → AllByRecursion (λ n. n ≤ 4) c
 small-by [] h = tt
 small-by (n ∷ ns) h = (h 0, small-by ns (λ k. h (suc k)))
 
@@ -87,21 +87,37 @@ least x n h i =
       | inr g ↦ let e : 2 ^ n ≤ 2 ^ min 4 n = pow_mono {i = n} {j = min 4 n} (omega arith) in omega arith
     ]
 
+-- the sets of a split use up the counts without the pair
+pub record IsCutBeside (c : List ℕ) (wanted p : ℕ) (bs : List Block) : Type 0 where
+  pub in_range : p < length c
+  pub has_two : 2 ≤ get_or c p 0
+  pub cut : IsCut 0 (set c p (get_or c p 0 - 2)) 0 0 wanted bs
+
+pub cut-beside : (c : List ℕ) (wanted melds p : ℕ) (bs : List Block) → length c ≡ 34 → wanted + melds ≡ 4 → IsSplit c melds bs p → IsCutBeside c wanted p bs
+cut-beside c wanted melds p bs long w h =
+    let adds = adds-everywhere c bs p long h.made_of in
+    let in_range : p < length c = omega (arith, h.made_of.is_kind) in
+    let own : cond (eqb p p) 2 0 + total bs p ≡ get_or c p 0 = adds p in
+    let has : 2 ≤ get_or c p 0 = grind (arith, nat_tests) in
+    record {
+      in_range = in_range;
+      has_two = has;
+      cut = record {
+        many = omega (arith, h.four);
+        sets = each-set c bs p h.made_of;
+        order = h.in_order;
+        adds = λ k. let a : cond (eqb k p) 2 0 + total bs k ≡ get_or c k 0 = adds k in let u = uncarried k in let t = same-total bs (0 + k) k (omega arith) in let v = without c p k in_range has in omega arith;
+      };
+    }
+
 pub choice-from : (c : List ℕ) (wanted melds p : ℕ) (bs : List Block) → IsCounts c → wanted + melds ≡ 4 → IsSplit c melds bs p → (x : ℕ) × (x < 2 ^ min 4 (doubts c)) × (sets_beside c wanted p x ≡ Some bs)
 choice-from c wanted melds p bs counts w h =
     let rest = set c p (get_or c p 0 - 2) in
-    let adds = adds-everywhere c bs p counts.each_kind h.made_of in
-    let in_range : p < length c = omega (arith, counts.each_kind, h.made_of.is_kind) in
-    let own : cond (eqb p p) 2 0 + total bs p ≡ get_or c p 0 = adds p in
-    let has : 2 ≤ get_or c p 0 = grind (arith, nat_tests) in
+    let beside = cut-beside c wanted melds p bs counts.each_kind w h in
+    let in_range : p < length c = beside.in_range in
+    let has : 2 ≤ get_or c p 0 = beside.has_two in
     let small : AllByRecursion (λ n. n ≤ 4) rest = small-by rest (λ k. let v = without c p k in_range has in omega (arith, v, counts.at_most_four k)) in
-    let cut : IsCut 0 rest 0 0 wanted bs = record {
-      many = omega (arith, h.four);
-      sets = each-set c bs p h.made_of;
-      order = h.in_order;
-      adds = λ k. let a : cond (eqb k p) 2 0 + total bs k ≡ get_or c k 0 = adds k in let u = uncarried k in let t = same-total bs (0 + k) k (omega arith) in let v = without c p k in_range has in omega arith;
-    } in
-    let f : IsFound 0 rest 0 0 wanted bs = found-by rest 0 0 0 wanted bs small cut in
+    let f : IsFound 0 rest 0 0 wanted bs = found-by rest 0 0 0 wanted bs small beside.cut in
     let few : wanted ≤ 4 = omega arith in
     let up : 2 ^ wanted ≤ 2 ^ 4 = pow_mono {i = wanted} {j = 4} few in
     let fewer : 2 ^ doubts rest ≤ 2 ^ doubts c = pow_mono (doubts-less c p (get_or c p 0 - 2) in_range (omega arith)) in

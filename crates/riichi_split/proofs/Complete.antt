@@ -38,7 +38,7 @@ peel-runs (Run a ∷ bs) k s o =
           (suc i.0, i.1, record { parts = cc (e, i.2.parts); order = i.2.order; sets = i.2.sets; may = λ _. subst Q e s.0 })
     ]
 
-peel : (bs : List Block) (k : ℕ) → AllByRecursion IsSet bs → IsOrderedFrom (2 * k) bs → (t : ℕ) × (r : ℕ) × (rest : List Block) × IsPeeled k t r bs rest
+pub peel : (bs : List Block) (k : ℕ) → AllByRecursion IsSet bs → IsOrderedFrom (2 * k) bs → (t : ℕ) × (r : ℕ) × (rest : List Block) × IsPeeled k t r bs rest
 peel [] k s o = (0, 0, [], record { parts = refl; order = tt; sets = tt; may = λ h. absurd (omega arith) })
 peel (Run a ∷ bs) k s o = let i = peel-runs (Run a ∷ bs) k s (omega (arith, o.0), o.1) in (0, i.0, i.1, i.2)
 peel (Pair a ∷ bs) k s o = absurd s.0
@@ -61,7 +61,7 @@ copies-own-triplet : (a k j : ℕ) → a ≡ k + j → 0 < copies (Triplet a) (k
 copies-own-triplet a k j e = grind (arith, nat_tests)
 
 -- no set stands past the counts
-no_more : (bs : List Block) (k one two left : ℕ) → IsCut k [] one two left bs → bs ≡ []
+pub no_more : (bs : List Block) (k one two left : ℕ) → IsCut k [] one two left bs → bs ≡ []
 no_more [] k one two left h = refl
 no_more (Run a ∷ bs) k one two left h =
     let e : a ≡ k + (a - k) = omega (arith, h.order.0) in
@@ -116,7 +116,7 @@ peeled-small t r left x true s room h =
           omega arith
     ]
 
-peeled-total : (k t r : ℕ) (bs rest : List Block) (j : ℕ) → IsPeeled k t r bs rest → total bs (k + j) ≡ t * cond (eqb j 0) 3 0 + r * cond (ltb j 3) 1 0 + total rest (k + j)
+pub peeled-total : (k t r : ℕ) (bs rest : List Block) (j : ℕ) → IsPeeled k t r bs rest → total bs (k + j) ≡ t * cond (eqb j 0) 3 0 + r * cond (ltb j 3) 1 0 + total rest (k + j)
 peeled-total k t r bs rest j p =
     let c : Choice = record { triplets = t; runs = r; choices = 0 } in
     ap (λ x. total x (k + j)) p.parts ∙ begun-total k j c rest
@@ -137,24 +137,36 @@ nil-found k one two left h z =
 found-is : (k n : ℕ) (ns : List ℕ) (one two left choices : ℕ) (c : Choice) (bs rest : List Block) → choice_of k n (may_have_runs ns) (one + two) left choices ≡ Some c → cut_from (k + 1) ns c.runs one (left - (c.triplets + c.runs)) c.choices ≡ Some rest → bs ≡ begun k c ++ rest → cut_from k (n ∷ ns) one two left choices ≡ Some bs
 found-is k n ns one two left choices c bs rest e f p = cut_from-cons k n ns one two left choices (Some c) e ∙ ap (sets_joined (begun k c)) f ∙ ap Some (sym p)
 
-found-step : (n : ℕ) (ns : List ℕ) (k one two left t r : ℕ) (bs rest : List Block) → n ≤ 4 → IsCut k (n ∷ ns) one two left bs → IsPeeled k t r bs rest → (IsCut (k + 1) ns r one (left - (t + r)) rest → IsFound (k + 1) ns r one (left - (t + r)) rest) → IsFound k (n ∷ ns) one two left bs
-found-step n ns k one two left t r bs rest small h p ih =
+-- the kinds above, where so many sets of kind k were peeled
+pub record IsCutBehind (k n : ℕ) (ns : List ℕ) (one two left t r : ℕ) (rest : List Block) : Type 0 where
+  pub uses : n ≡ one + two + 3 * t + r
+  pub room : t + r ≤ left
+  pub cut : IsCut (k + 1) ns r one (left - (t + r)) rest
+
+pub cut-behind : (n : ℕ) (ns : List ℕ) (k one two left t r : ℕ) (bs rest : List Block) → IsCut k (n ∷ ns) one two left bs → IsPeeled k t r bs rest → IsCutBehind k n ns one two left t r rest
+cut-behind n ns k one two left t r bs rest h p =
     let low = none_below rest (2 * k + 2) k p.sets p.order (omega arith) in
     let many : t + r + length rest ≡ left = sym (simp (length-append, length-replicate) at (ap length p.parts)) ∙ h.many in
-    let uses : n ≡ one + two + 3 * t + r =
-    let e = peeled-total k t r bs rest 0 p in let z = same-total rest (k + 0) k (omega arith) in let a = h.adds 0 in omega arith in
-    let cut : IsCut (k + 1) ns r one (left - (t + r)) rest = record {
-      many = omega arith;
-      sets = p.sets;
-      order = order-weaker rest (2 * k + 2) (2 * (k + 1)) (omega arith) p.order;
-      adds = rest-adds k n ns one two left t r bs rest h p;
-    } in
-    let i = ih cut in
+    record {
+      uses = let e = peeled-total k t r bs rest 0 p in let z = same-total rest (k + 0) k (omega arith) in let a = h.adds 0 in omega arith;
+      room = omega arith;
+      cut = record {
+        many = omega arith;
+        sets = p.sets;
+        order = order-weaker rest (2 * k + 2) (2 * (k + 1)) (omega arith) p.order;
+        adds = rest-adds k n ns one two left t r bs rest h p;
+      };
+    }
+
+found-step : (n : ℕ) (ns : List ℕ) (k one two left t r : ℕ) (bs rest : List Block) → n ≤ 4 → IsCut k (n ∷ ns) one two left bs → IsPeeled k t r bs rest → (IsCut (k + 1) ns r one (left - (t + r)) rest → IsFound (k + 1) ns r one (left - (t + r)) rest) → IsFound k (n ∷ ns) one two left bs
+found-step n ns k one two left t r bs rest small h p ih =
+    let behind = cut-behind n ns k one two left t r bs rest h p in
+    let i = ih behind.cut in
     let c : Choice = record { triplets = t; runs = r; choices = i.0 } in
-    let three : 3 ≤ r → may_have_runs ns ≡ true = λ many-runs. let a = cut.adds 0 in let b = cut.adds 1 in grind (arith, nat_tests) in
+    let three : 3 ≤ r → may_have_runs ns ≡ true = λ many-runs. let a = behind.cut.adds 0 in let b = behind.cut.adds 1 in grind (arith, nat_tests) in
     let number = chosen-below (may_have_runs ns) t r i.0 in
-    let e = choice_of-is k n (may_have_runs ns) (one + two) left number c (peeled-choice k n t r (one + two) left i.0 (may_have_runs ns) uses small (omega arith) p.may three) in
-    (number, peeled-small t r left i.0 (may_have_runs ns) (omega arith) (omega arith) i.1, found-is k n ns one two left number c bs rest e i.2 p.parts)
+    let e = choice_of-is k n (may_have_runs ns) (one + two) left number c (peeled-choice k n t r (one + two) left i.0 (may_have_runs ns) behind.uses small behind.room p.may three) in
+    (number, peeled-small t r left i.0 (may_have_runs ns) (let u = behind.uses in omega arith) behind.room i.1, found-is k n ns one two left number c bs rest e i.2 p.parts)
 
 pub found-by : (ns : List ℕ) (k one two left : ℕ) (bs : List Block) → AllByRecursion (λ n. n ≤ 4) ns → IsCut k ns one two left bs → IsFound k ns one two left bs
 found-by [] k one two left bs small h =

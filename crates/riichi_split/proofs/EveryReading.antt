@@ -74,7 +74,7 @@ every_split c melds m = record {
 
 -- ---- thirteen orphans
 
-orphans-iff : (c : List ℕ) (melds : ℕ) → IsTrue (are_orphans c melds) ↔ ((melds ≡ 0) × IsThirteenOrphans c)
+pub orphans-iff : (c : List ℕ) (melds : ℕ) → IsTrue (are_orphans c melds) ↔ ((melds ≡ 0) × IsThirteenOrphans c)
 orphans-iff c melds =
     let all = λ (d : ℕ). list_all (λ k. eqb (get_or c k 0) (orphan_copies d k)) every_kind in
     let some = list_any (are_orphans_with c) every_kind in (

@@ -26,3 +26,7 @@ pub mod SplitSuits
 pub mod PairTotals
 pub mod KindMarks
 pub mod SpecialKinds
+pub mod Ways
+pub mod WayNumbers
+pub mod WaysFound
+pub mod Eight

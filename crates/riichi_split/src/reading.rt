@@ -1,3 +1,5 @@
+ghost use Rattle.std.specs.Prelude.{◌≡◌};
+
 use crate::sets::Sets;
 use riichi_tiles::{Block, Kind};
 
@@ -11,4 +13,15 @@ pub enum Reading {
     SevenPairs,
     /// The thirteen orphans: each terminal and honour, one of them twice.
     Orphans,
+}
+
+/// What fills the places of a list that no reading has taken.
+impl Default for Reading {
+    ghost use Rattle.riichi_split.specs.declared.reading.Reading.TheVariants.{SevenPairs};
+
+    ghost is_default = { λ reading. reading ≡ SevenPairs };
+
+    fn default() -> Self {
+        Reading::SevenPairs
+    }
 }

@@ -1,4 +1,4 @@
-ghost use Rattle.std.specs.Prelude.{length};
+ghost use Rattle.std.specs.Prelude.{◌≤◌, length};
 ghost use Rattle.std.specs.Iterator.{YieldsFirst, item_count};
 
 use crate::done::next_done;
@@ -40,9 +40,10 @@ impl Readings {
     ghost use Rattle.riichi_split.specs.Readings.{AreTheReadings};
 
     /// The readings of concealed tiles, the winning tile among them, beside the melds. Tiles that are
-    /// not of the right number have none.
+    /// not of the right number have none, and no hand has more than eight.
     pub fn new(counts: &Counts, melds: &Melds, winning: Kind) -> Readings
-        ensures { AreTheReadings counts.now (length melds.now) winning result }
+        ensures each { AreTheReadings counts.now (length melds.now) winning result }
+        ensures few { length result ≤ 8 }
     {
         let melds = melds.count();
         let tiles = counts.as_array();

@@ -7,6 +7,12 @@ use crate::kind::{digit_of, letter_of, push_four, push_three, push_two};
 use arrayvec::ArrayString;
 use riichi_tiles::{Block, Kind, Meld};
 
+/// The bytes of the longest block.
+pub const MOST_BLOCK: usize = "123m".len();
+
+/// The bytes of the longest meld.
+pub const MOST_MELD: usize = "ankan:1111m".len();
+
 #[tactic(auto, unfolding(crate::specs::Tiles::run_text))]
 fn push_run<const ROOM: usize>(text: &mut ArrayString<ROOM>, low: Kind)
     requires { array_string_len text.old + 4 ≤ ROOM }
@@ -23,9 +29,9 @@ fn push_run<const ROOM: usize>(text: &mut ArrayString<ROOM>, low: Kind)
 /// Writes a run, a triplet or a pair.
 #[tactic(auto, unfolding(crate::specs::Tiles::block_text))]
 pub fn push_block<const ROOM: usize>(text: &mut ArrayString<ROOM>, block: &Block)
-    requires { array_string_len text.old + 4 ≤ ROOM }
+    requires { array_string_len text.old + MOST_BLOCK ≤ ROOM }
     ensures bytes { text.new.bytes ≡ text.old.bytes ++ spec.block_text block.now }
-    ensures len { array_string_len text.new ≤ array_string_len text.old + 4 }
+    ensures len { array_string_len text.new ≤ array_string_len text.old + MOST_BLOCK }
 {
     match *block {
         Block::Run(low) => push_run(text, low),
@@ -37,9 +43,9 @@ pub fn push_block<const ROOM: usize>(text: &mut ArrayString<ROOM>, block: &Block
 /// Writes a meld as it stands in a line.
 #[tactic(auto, unfolding(crate::specs::Tiles::meld_text))]
 pub fn push_meld<const ROOM: usize>(text: &mut ArrayString<ROOM>, meld: &Meld)
-    requires { array_string_len text.old + 11 ≤ ROOM }
+    requires { array_string_len text.old + MOST_MELD ≤ ROOM }
     ensures bytes { text.new.bytes ≡ text.old.bytes ++ spec.meld_text meld.now }
-    ensures len { array_string_len text.new ≤ array_string_len text.old + 11 }
+    ensures len { array_string_len text.new ≤ array_string_len text.old + MOST_MELD }
 {
     match *meld {
         Meld::Chi(low) => {

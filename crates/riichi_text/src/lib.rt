@@ -10,8 +10,10 @@ mod block;
 mod kind;
 mod list;
 mod number;
+mod room;
 
-pub use block::{push_block, push_meld};
+pub use block::{MOST_BLOCK, MOST_MELD, push_block, push_meld};
 pub use kind::{digit_of, letter_of, push_four, push_kind, push_three, push_two};
 pub use list::{ListItem, push_list};
-pub use number::push_number;
+pub use number::{MOST_I8, MOST_U8, MOST_U32, MOST_U64, push_number};
+pub use room::{ANSWER_ROOM, AnswerText};

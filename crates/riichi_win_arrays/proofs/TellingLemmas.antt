@@ -4,7 +4,7 @@ use Rattle.std.proofs.Math.Seq.{take-suc}
 use Rattle.std.proofs.lemmas.List.{length-map, length-take, map-append}
 use Rattle.std.specs.Prelude.{slice_set}
 use Rattle.riichi_arrays.proofs.ColumnLemmas.{put_next}
-use Rattle.riichi_hand.specs.declared.win.Rules.{Rules}
+use Rattle.riichi_hand.specs.Rules.{Rules}
 use Rattle.riichi_win_arrays.specs.Wins.{AreScored, told_win}
 use Rattle.riichi_win_arrays.specs.declared.score_row.ScoreRow.{ScoreRow}
 use Rattle.riichi_win_arrays.specs.declared.win_row.WinRow.{WinRow}

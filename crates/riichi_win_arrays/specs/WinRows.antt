@@ -5,8 +5,7 @@ use Rattle.riichi_arrays.specs.Hands.{are_counts, melds_in}
 use Rattle.riichi_hand.specs.declared.win.By.{By}
 use Rattle.riichi_hand.specs.declared.win.By.TheVariants.{Ron, Tsumo}
 use Rattle.riichi_hand.specs.declared.win.Flags.{Flags}
-use Rattle.riichi_hand.specs.declared.win.Rules.{Rules}
-use Rattle.riichi_hand.specs.Rules.{house_of}
+use Rattle.riichi_hand.specs.Rules.{Rules}
 use Rattle.riichi_hand.specs.declared.win.WinParts.{WinParts}
 use Rattle.riichi_hand.specs.declared.win.Wind.{Wind}
 use Rattle.riichi_hand.specs.declared.win.Wind.TheVariants.{East, South, West, North}
@@ -56,7 +55,7 @@ is_sound row =
 
 abbrev pub row_parts : Rules → WinRow → WinParts
 row_parts rules row = record {
-  rules = house_of rules;
+  rules = rules;
   concealed = row.concealed;
   melds = unwrap_or (melds_in row.melds) [];
   winning = row.winning;

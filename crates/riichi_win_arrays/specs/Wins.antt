@@ -4,7 +4,7 @@ use Rattle.riichi_hand.specs.Win.{win_of}
 use Rattle.riichi_hand.specs.declared.fault.LineCode.TheVariants.{H4}
 use Rattle.riichi_hand.specs.declared.fault.LineFault.{LineFault}
 use Rattle.riichi_hand.specs.declared.fault.LineFault.TheVariants.{Line}
-use Rattle.riichi_hand.specs.declared.win.Rules.{Rules}
+use Rattle.riichi_hand.specs.Rules.{Rules}
 use Rattle.riichi_hand.specs.declared.win.WinParts.{WinParts}
 use Rattle.riichi_score.specs.Best.{best_of}
 use Rattle.riichi_score.specs.declared.answer.WinAnswer.{WinAnswer}

@@ -5,7 +5,7 @@ ghost use Rattle.riichi_win_arrays.specs.WinRows as spec;
 
 use crate::indicators::indicators_in;
 use riichi_arrays::{counts_in, melds_in};
-use riichi_hand::{By, Flags, RuleSet, Rules, WinParts, Wind};
+use riichi_hand::{By, Flags, Rules, WinParts, Wind};
 use riichi_tiles::{Kind, Reds};
 
 /// A win as a row of bytes. A flag is set where its byte isn't 0.
@@ -52,7 +52,7 @@ impl WinRow {
             return None;
         }
         Some(WinParts {
-            rules: RuleSet::of(rules),
+            rules: rules,
             concealed: counts_in(&self.concealed)?,
             melds: melds_in(&self.melds)?,
             winning: Kind::new(self.winning)?,

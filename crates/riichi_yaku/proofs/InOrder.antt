@@ -14,6 +14,7 @@ use Rattle.riichi_yaku.specs.declared.table.Yaku.TheVariants.{Riichi}
 use Rattle.riichi_yaku.specs.Table.{every_yaku, number, han, word}
 use Rattle.riichi_yaku.specs.YakuSets.{contains, yaku_in}
 use Rattle.riichi_yaku.proofs.Sets.{in_table}
+use Rattle.riichi_yaku.specs.declared.table.TheConstants.Yaku.{COUNT, MOST_WORDS}
 
 -- these yaku have the numbers from a on
 AreFrom : ℕ → List Yaku → Type 0
@@ -69,25 +70,25 @@ abbrev without_first : ℕ → ℕ
 without_first n = bit_and n (bit_not w64 (1 * 2 ^ first n % 2 ^ 64))
 
 -- the lowest bit of a set is the number of a yaku
-pub first_below : (n : ℕ) → 0 < n → n < 2 ^ 42 → first n < 42
+pub first_below : (n : ℕ) → 0 < n → n < 2 ^ COUNT → first n < COUNT
 first_below n some below =
     let low = bit_at-trailing_zeros w64 n some (omega (arith, below)) in
-    elim (cases_lt (first n) 42) [
+    elim (cases_lt (first n) COUNT) [
       | inl lt ↦ lt
-      | inr past ↦ let none = bit_at_above n 42 (first n) below past in absurd (omega (arith, low.1, none))
+      | inr past ↦ let none = bit_at_above n COUNT (first n) below past in absurd (omega (arith, low.1, none))
     ]
 
 -- a bit from 64 on is set in neither
-same-bits : (n i : ℕ) → n < 2 ^ 42 → first n < 64 → (i ≡ first n → ⊥) → bit_at n i ≡ bit_at (without_first n) i
+same-bits : (n i : ℕ) → n < 2 ^ COUNT → first n < 64 → (i ≡ first n → ⊥) → bit_at n i ≡ bit_at (without_first n) i
 same-bits n i below low other =
     elim (cases_lt i 64) [
       | inl lt ↦ sym (bit_at_clear_other w64 n (first n) low i lt other)
       | inr past ↦
-          bit_at_above n 42 i below (omega (arith, past))
-          ∙ sym (bit_at_above (without_first n) 42 i (omega (arith, below, and_le_l n (bit_not w64 (1 * 2 ^ first n % 2 ^ 64)))) (omega (arith, past)))
+          bit_at_above n COUNT i below (omega (arith, past))
+          ∙ sym (bit_at_above (without_first n) COUNT i (omega (arith, below, and_le_l n (bit_not w64 (1 * 2 ^ first n % 2 ^ 64)))) (omega (arith, past)))
     ]
 
-is-first : (n : ℕ) → 0 < n → n < 2 ^ 42 → IsFirst (first n) n (without_first n)
+is-first : (n : ℕ) → 0 < n → n < 2 ^ COUNT → IsFirst (first n) n (without_first n)
 unfolding Has
 is-first n some below =
     let low = bit_at-trailing_zeros w64 n some (omega (arith, below)) in
@@ -103,7 +104,7 @@ unfolding AreFrom
 table-from = search rules
 
 -- the yaku of a set are its first and those of the set without it
-pub first_yaku : (n : ℕ) (yaku : Yaku) → 0 < n → n < 2 ^ 42 → number yaku ≡ first n → yaku_in n ≡ yaku ∷ yaku_in (without_first n)
+pub first_yaku : (n : ℕ) (yaku : Yaku) → 0 < n → n < 2 ^ COUNT → number yaku ≡ first n → yaku_in n ≡ yaku ∷ yaku_in (without_first n)
 unfolding yaku_in
 first_yaku n yaku some below is =
     first-from every_yaku 0 (first n) n (without_first n) table-from (omega arith) (omega (arith, first_below n some below)) (is-first n some below)
@@ -115,7 +116,7 @@ yaku_in_none = refl
 
 -- ---- sums over the yaku of a set
 
-pub yaku_in_most : (set : ℕ) → length (yaku_in set) ≤ 42
+pub yaku_in_most : (set : ℕ) → length (yaku_in set) ≤ COUNT
 unfolding yaku_in
 yaku_in_most set = omega (arith, length-filter_both (contains set) (λ yaku. not (contains set yaku)) (λ yaku. refl) every_yaku)
 
@@ -133,7 +134,7 @@ spaced yaku = codes " " ++ word yaku
 abbrev pub letters : Yaku → ℕ
 letters yaku = length (spaced yaku)
 
-pub letters-most : (set : ℕ) → sum_by letters (yaku_in set) ≤ 609
+pub letters-most : (set : ℕ) → sum_by letters (yaku_in set) ≤ MOST_WORDS
 letters-most set = omega (arith, sum-most letters set)
 
 pub letters-of : (text before : List ℕ) (yaku : List Yaku) → text ≡ before ++ flat_map spaced yaku → length text ≡ length before + sum_by letters yaku

@@ -18,6 +18,7 @@ use Rattle.riichi_yaku.specs.declared.table.Yaku.TheVariants.{Riichi}
 use Rattle.riichi_yaku.specs.Table.{every_yaku, number, word, yaku_is_yakuman}
 use Rattle.riichi_yaku.specs.YakuSets.{contains, number_of_bits, set_of}
 use Rattle.riichi_yaku.specs.Conditions.{condition, is_met, is_yakuman_met, is_other_met, counts_where, counts, holds, yaku_of}
+use Rattle.riichi_yaku.specs.declared.table.TheConstants.Yaku.{COUNT, MOST_WORD}
 
 -- ---- numbers and their bits
 
@@ -63,19 +64,19 @@ pub in_table : (yaku : Yaku) → get_or every_yaku (number yaku) Riichi ≡ yaku
 in_table Riichi = refl
 in_table other = refl
 
-pub below_42 : (yaku : Yaku) → number yaku < 42
-below_42 Riichi = omega arith
-below_42 other = omega arith
+pub below_count : (yaku : Yaku) → number yaku < COUNT
+below_count Riichi = omega arith
+below_count other = omega arith
 
-pub number_at : (place : ℕ) (other : Yaku) → place < 42 → number (get_or every_yaku place other) ≡ place
+pub number_at : (place : ℕ) (other : Yaku) → place < COUNT → number (get_or every_yaku place other) ≡ place
 number_at place other within =
-    let numbers : map number every_yaku ≡ range_with_len 0 42 = refl in
-    sym (get_or-map number every_yaku place other 0 within) ∙ ap (λ x. get_or x place 0) numbers ∙ get_or-range_with_len 0 42 place 0 within ∙ omega arith
+    let numbers : map number every_yaku ≡ range_with_len 0 COUNT = refl in
+    sym (get_or-map number every_yaku place other 0 within) ∙ ap (λ x. get_or x place 0) numbers ∙ get_or-range_with_len 0 COUNT place 0 within ∙ omega arith
 
 pub contains-set_of : (is_so : Yaku → Bool) (yaku : Yaku) → contains (set_of is_so) yaku ≡ is_so yaku
 contains-set_of is_so yaku =
     bit-number_of (map is_so every_yaku) (number yaku)
-    ∙ get_or-map is_so every_yaku (number yaku) Riichi false (below_42 yaku)
+    ∙ get_or-map is_so every_yaku (number yaku) Riichi false (below_count yaku)
     ∙ ap is_so (in_table yaku)
 
 -- ---- yakuman alone
@@ -120,6 +121,6 @@ yakuman-alone reading w large yaku e =
 -- ---- words
 
 -- no word is longer than `all-terminals-and-honours`
-pub word_short : (yaku : Yaku) → length (word yaku) ≤ 25
+pub word_short : (yaku : Yaku) → length (word yaku) ≤ MOST_WORD
 word_short Riichi = omega arith
 word_short other = omega arith

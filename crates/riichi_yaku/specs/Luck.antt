@@ -3,6 +3,8 @@ use Rattle.std.specs.Prelude.{Bool, not, ◌&&◌, ◌==◌}
 use Rattle.riichi_tiles.specs.Melds.{are_concealed}
 use Rattle.riichi_hand.specs.declared.win.WinParts.{WinParts}
 use Rattle.riichi_hand.specs.Win.{is_ron}
+use Rattle.riichi_hand.specs.Rules.{is_on}
+use Rattle.riichi_hand.specs.declared.switch.Switch.TheVariants.{Ippatsu}
 
 -- 0: the record says `riichi=1`; an open hand with riichi is refused
 abbrev pub is_riichi : WinParts → Bool
@@ -14,7 +16,7 @@ is_double_riichi parts = parts.riichi == 2
 
 -- 2: the flag `ippatsu`, a win within a round of the riichi, where the rules count it
 abbrev pub is_ippatsu : WinParts → Bool
-is_ippatsu parts = parts.flags.ippatsu && parts.rules.ippatsu
+is_ippatsu parts = parts.flags.ippatsu && is_on Ippatsu parts.rules
 
 -- 3: a self-draw with a concealed hand
 abbrev pub is_fully_concealed : WinParts → Bool

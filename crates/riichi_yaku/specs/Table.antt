@@ -3,7 +3,7 @@ use Rattle.std.specs.Prelude.{ℕ, Bool, nat_le, List, [], ◌∷◌, codes, if�
 use Rattle.riichi_yaku.specs.declared.table.Yaku.{Yaku}
 use Rattle.riichi_yaku.specs.declared.table.Yaku.TheVariants.{Riichi, DoubleRiichi, Ippatsu, FullyConcealed, Pinfu, PureDoubleChow, AllSimples, WhiteDragon, GreenDragon, RedDragon, SeatWind, PrevalentWind, AfterAKong, RobbingTheKong, LastTile, MixedTripleChow, PureStraight, OutsideHand, SevenPairs, TriplePung, ThreeKongs, AllPungs, ThreeConcealedPungs, LittleThreeDragons, AllTerminalsAndHonours, HalfFlush, TerminalsInAllSets, TwicePureDoubleChow, FullFlush, ThirteenOrphans, NineGates, FourConcealedPungs, BigThreeDragons, LittleFourWinds, BigFourWinds, AllHonours, AllTerminals, AllGreen, FourKongs, BlessingOfHeaven, BlessingOfEarth, BlessingOfMan}
 
--- in the order of the table; the yakuman are the last thirteen
+-- in the order of the table; the yakuman are the last, from thirteen orphans on
 abbrev pub every_yaku : List Yaku
 every_yaku =
     Riichi ∷ DoubleRiichi ∷ Ippatsu ∷ FullyConcealed ∷ Pinfu ∷ PureDoubleChow ∷ AllSimples ∷ WhiteDragon ∷ GreenDragon

@@ -8,10 +8,12 @@ use Rattle.riichi_split.specs.declared.reading.Reading.{Reading}
 use Rattle.riichi_blocks.specs.HandBlocks.{is_thirteen_orphans}
 use Rattle.riichi_blocks.specs.Held.{every, some}
 use Rattle.riichi_blocks.specs.Kinds.{is_honour, is_orphan, is_simple, is_of_suit, number_suits}
+use Rattle.riichi_hand.specs.Rules.{is_on}
+use Rattle.riichi_hand.specs.declared.switch.Switch.TheVariants.{OpenSimples}
 
 -- an open hand may have all simples, where the rules say so
 abbrev pub may_be_all_simples : WinParts → Bool
-may_be_all_simples parts = are_concealed parts.melds || parts.rules.open_simples
+may_be_all_simples parts = are_concealed parts.melds || is_on OpenSimples parts.rules
 
 -- 6: every tile is a simple
 abbrev pub is_all_simples : Reading → List ℕ → WinParts → Bool

@@ -1,4 +1,4 @@
-//! The yaku of a reading: `yaku_of` joins the 42 conditions of the table, one function each, into a `YakuSet`.
+//! The yaku of a reading: `yaku_of` joins the conditions of the table, one function each, into a `YakuSet`.
 //!
 //! A condition looks at the blocks of the whole hand, at every tile, at how the hand was won, or at the
 //! reading itself, in the words of riichi_blocks. They stand in `luck`, `honours`, `runs`, `outside`,

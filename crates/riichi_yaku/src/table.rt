@@ -2,7 +2,7 @@
 ghost use Rattle.std.specs.Prelude.{◌≡◌, ◌<◌, ◌≤◌, length, if◌then◌else◌, true};
 ghost use Rattle.riichi_yaku.specs.Table as spec;
 
-/// A yaku. They stand in the order of the table; the yakuman are the last thirteen.
+/// A yaku. They stand in the order of the table; the yakuman are the last, from thirteen orphans on.
 #[derive(Clone, Copy, Debug, PartialEq, Eq)]
 pub enum Yaku {
     Riichi,
@@ -71,11 +71,20 @@ fn row(word: &'static str, concealed: u8, melded: u8) -> YakuRow
 }
 
 /// All of them at one place of memory, so that one is read without a copy of all.
-static IN_ORDER: [Yaku; 42] = Yaku::ALL;
+static IN_ORDER: [Yaku; Yaku::COUNT] = Yaku::ALL;
 
 impl Yaku {
+    /// How many there are.
+    pub const COUNT: usize = 42;
+
+    /// The bytes of the longest word.
+    pub const MOST_WORD: usize = "all-terminals-and-honours".len();
+
+    /// The bytes of all words, each after a space.
+    pub const MOST_WORDS: usize = 609;
+
     /// All of them, in the order of the table.
-    pub const ALL: [Yaku; 42] = [
+    pub const ALL: [Yaku; Yaku::COUNT] = [
         Yaku::Riichi,
         Yaku::DoubleRiichi,
         Yaku::Ippatsu,
@@ -123,13 +132,13 @@ impl Yaku {
     /// Its place in the table, from 0 on.
     pub fn number(self) -> u8
         ensures value { result ≡ spec.number self }
-        ensures below { result < 42 }
+        ensures below { result < Yaku.COUNT }
     {
         self as u8
     }
 
     pub(crate) fn at(number: u8) -> Yaku
-        requires { number < 42 }
+        requires { number < Yaku.COUNT }
         ensures { spec.number result ≡ number }
     {
         IN_ORDER[number as usize]
@@ -139,7 +148,7 @@ impl Yaku {
     #[tactic(auto, using(crate::proofs::Sets::word_short))]
     pub fn word(self) -> &'static str
         ensures value { result.now ≡ spec.word self }
-        ensures short { length result.now ≤ 25 }
+        ensures short { length result.now ≤ Yaku.MOST_WORD }
     {
         self.row().word
     }

@@ -17,12 +17,13 @@ pub struct YakuSet {
 
 impl Model for YakuSet {
     ghost use Rattle.std.specs.Prelude.{ℕ, ◌<◌, ◌^◌};
+    ghost use Rattle.riichi_yaku.specs.declared.table.TheConstants.Yaku.{COUNT};
 
     ghost Value = { ℕ };
 
     ghost view = { λ s. s.bits };
 
-    ghost invariant = { λ s. s.bits < 2 ^ 42 };
+    ghost invariant = { λ s. s.bits < 2 ^ COUNT };
 
     ghost inverse = { λ n. record { bits = n } };
 }
@@ -74,7 +75,7 @@ impl YakuSet {
     /// The number itself.
     pub fn bits(self) -> u64
         ensures value { result ≡ self }
-        ensures below { self < 2 ^ 42 }
+        ensures below { self < 2 ^ Yaku.COUNT }
     {
         self.bits
     }
@@ -83,7 +84,7 @@ impl YakuSet {
     #[tactic(auto, using(crate::proofs::InOrder::yaku_in_most))]
     pub fn iter(self) -> YakuIter
         ensures value { result ≡ spec.yaku_in self }
-        ensures most { length (spec.yaku_in self) ≤ 42 }
+        ensures most { length (spec.yaku_in self) ≤ Yaku.COUNT }
     {
         YakuIter { rest: self.bits }
     }
@@ -110,6 +111,7 @@ pub struct YakuIter {
 
 impl Model for YakuIter {
     ghost use Rattle.std.specs.Prelude.{List, ◌<◌, ◌^◌};
+    ghost use Rattle.riichi_yaku.specs.declared.table.TheConstants.Yaku.{COUNT};
     ghost use Rattle.riichi_yaku.specs.declared.table.Yaku.{Yaku};
     ghost use Rattle.riichi_yaku.specs.YakuSets.{yaku_in};
 
@@ -117,7 +119,7 @@ impl Model for YakuIter {
 
     ghost view = { λ i. yaku_in i.rest };
 
-    ghost invariant = { λ i. i.rest < 2 ^ 42 };
+    ghost invariant = { λ i. i.rest < 2 ^ COUNT };
 }
 
 impl Iterator for YakuIter {
@@ -142,10 +144,10 @@ impl FusedIterator for YakuIter {}
 
 /// Writes the words of a set behind a text, in the order of the table, each after a space.
 #[tactic(auto, unfolding(crate::specs::YakuSets::yaku_words))]
-pub fn push_words(text: &mut ArrayString<3072>, set: YakuSet)
-    requires { length text.old.bytes + 609 ≤ 3072 }
+pub fn push_words<const ROOM: usize>(text: &mut ArrayString<ROOM>, set: YakuSet)
+    requires { length text.old.bytes + Yaku.MOST_WORDS ≤ ROOM }
     ensures value { text.new.bytes ≡ text.old.bytes ++ spec.yaku_words set }
-    ensures most { length text.new.bytes ≤ length text.old.bytes + 609 }
+    ensures most { length text.new.bytes ≤ length text.old.bytes + Yaku.MOST_WORDS }
 {
     for yaku in set.iter() {
         text.push_str(" ");

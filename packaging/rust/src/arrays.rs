@@ -131,7 +131,7 @@ pub const NO_WIN: u8 = 102;
 pub struct Score {
     /// Bit n for the yaku with number n.
     pub yaku: u64,
-    /// The base points; 8000 of a yakuman, whose han, fu and dora are 0.
+    /// The base points; of a yakuman, whose han, fu and dora are 0, 8000 for each limit.
     pub base: u32,
     /// All that the winner gains, in points, with counters and sticks.
     pub gain: u32,

@@ -1,5 +1,7 @@
 //! The job of a line whose texts are read.
 ghost use Rattle.std.specs.Prelude.{◌≡◌, None, Some, if◌then◌else◌};
+ghost use Rattle.riichi_hand.specs.declared.switch.Switch.TheVariants.{RedFives};
+ghost use Rattle.riichi_hand.specs.Rules.{is_on};
 ghost use Rattle.riichi_hand.specs.Win.{no_reds, kept_under};
 ghost use Rattle.riichi_hand.specs.Faults.{IsValueOrFirstFault, first_fault};
 ghost use Rattle.riichi_hand.specs.Lines.{text_faults, job_faults};
@@ -17,16 +19,16 @@ use super::texts::Texts;
 use super::words::Words;
 use crate::fault::{LineCode, LineFault};
 use crate::hand::HandRecord;
-use crate::house::Switch;
 use crate::job::Job;
-use crate::rule_set::RuleSet;
+use crate::rules::Rules;
 use crate::shape::ShapeRecord;
+use crate::switch::Switch;
 use crate::win::{Flags, WinParts, WinRecord};
 use riichi_tiles::{Counts, Kind, Reds, reds_of};
 
 /// The job of a line, or the first fault of its record.
 pub(crate) fn make_job(
-    rules: RuleSet,
+    rules: Rules,
     needed: Needed,
     words: &Words<'_>,
     fields: &Fields<'_>,
@@ -50,7 +52,7 @@ pub(crate) fn make_job(
 /// The win, where there is one winning tile and the record takes the parts.
 #[inline(never)]
 fn make_win(
-    rules: RuleSet,
+    rules: Rules,
     keys: WinKeys,
     words: &Words<'_>,
     fields: &Fields<'_>,
@@ -97,9 +99,10 @@ fn only_kind(counts: &Counts) -> Option<Kind>
 }
 
 /// The red fives that the rules keep.
-fn reds_under(rules: RuleSet, words: &Words<'_>, fields: &Fields<'_>) -> Reds
+fn reds_under(rules: Rules, words: &Words<'_>, fields: &Fields<'_>) -> Reds
     requires { Holds fields.now (parts_in words.now).entries }
-    ensures { result ≡ (if rules.red_fives then joined_reds (parts_in words.now) else no_reds) }
+    ensures { result
+        ≡ (if is_on RedFives rules then joined_reds (parts_in words.now) else no_reds) }
 {
     if rules.has(Switch::RedFives) {
         reds_of_line(words, fields)

@@ -21,8 +21,7 @@ use super::texts::Texts;
 use super::words::Words;
 use crate::fault::{LineCode, LineFault};
 use crate::job::Job;
-use crate::rule_set::RuleSet;
-use crate::win::Rules;
+use crate::rules::Rules;
 
 /// Why a line is refused: its first fault, and the line from the word on at which it stands, where that is one word.
 #[derive(Clone, Copy, Debug)]
@@ -122,7 +121,7 @@ fn read_into<'a>(
     fields.fill(&words)?; // H4 and H5
     let needed = Needed::read(&words, fields)?; // H6
     texts.spell(&words, fields)?; // N1 to N6, then H7
-    let job = make_job(RuleSet::of(rules), needed, &words, fields, texts)?; // H8 to H15
+    let job = make_job(rules, needed, &words, fields, texts)?; // H8 to H15
     Ok(Some(job))
 }
 

@@ -82,7 +82,7 @@ class Score(ctypes.Structure):
     yaku: int
     """Bit n for the yaku with number n."""
     base: int
-    """The base points; 8000 of a yakuman, whose han, fu and dora are 0."""
+    """The base points; of a yakuman, whose han, fu and dora are 0, 8000 for each limit."""
     gain: int
     """All that the winner gains, in points, with counters and sticks."""
     discarder: int

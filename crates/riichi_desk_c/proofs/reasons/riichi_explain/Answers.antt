@@ -1,6 +1,6 @@
 use Rattle.std.proofs.Common.{◌≡◌, Option, None, refl, sym, subst, ◌∙◌}
 use Rattle.std.specs.Prelude.{codes}
-use Rattle.riichi_hand.specs.declared.win.Rules.{Rules}
+use Rattle.riichi_hand.specs.Rules.{Rules}
 use Rattle.riichi_desk_c.specs.Replies.{rules_numbered}
 use Rattle.riichi_desk_c.specs.Reasons.{IsReasonUnder}
 use Rattle.riichi_desk_c.proofs.reasons.riichi_explain.Goals as goal

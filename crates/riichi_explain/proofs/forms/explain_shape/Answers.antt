@@ -1,4 +1,3 @@
-use Rattle.riichi_tiles.specs.Melds.{tiles}
 use Rattle.riichi_explain.proofs.FormLemmas.{distances_of}
 use Rattle.riichi_explain.proofs.forms.explain_shape.Goals as goal
 

@@ -1,4 +1,4 @@
-use Rattle.std.proofs.Common.{[], append-nil, sym}
+use Rattle.std.proofs.Common.{append-nil, sym}
 use Rattle.riichi_explain.proofs.WaitLemmas.{waits_at_told}
 use Rattle.riichi_explain.proofs.waits.push_kind_wait.Goals as goal
 

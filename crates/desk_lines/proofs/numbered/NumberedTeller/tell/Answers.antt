@@ -1,6 +1,6 @@
 use Rattle.std.proofs.Common.{ℕ, List, ◌++◌, Option, None, refl, sym, subst, ap, ◌∙◌, take, length}
 use Rattle.std.proofs.lemmas.List.{append-nil}
-use Rattle.riichi_hand.specs.declared.win.Rules.{Rules}
+use Rattle.riichi_hand.specs.Rules.{Rules}
 use Rattle.desk_lines.specs.Numbered.{with_number}
 use Rattle.desk_lines.specs.Records.{IsToldUnder, kind_under}
 use Rattle.desk_lines.specs.Telling.{line_by, has_answer}

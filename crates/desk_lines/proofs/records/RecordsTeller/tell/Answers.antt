@@ -1,6 +1,6 @@
 use Rattle.std.proofs.Common.{Option, None, refl, sym, subst, ap, ◌∙◌}
 use Rattle.std.proofs.lemmas.List.{append-nil}
-use Rattle.riichi_hand.specs.declared.win.Rules.{Rules}
+use Rattle.riichi_hand.specs.Rules.{Rules}
 use Rattle.desk_lines.specs.Records.{IsToldUnder, kind_under}
 use Rattle.desk_lines.specs.declared.line_kind.LineKind.TheVariants.{NoRecord}
 use Rattle.desk_lines.proofs.AnswerLemmas.{AreRead_line, AnswerRecords-line}

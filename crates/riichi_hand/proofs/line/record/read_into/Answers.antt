@@ -8,7 +8,6 @@ use Rattle.riichi_hand.specs.Words.{words_of, from_words}
 use Rattle.riichi_hand.specs.Parts.{LineParts, parts_of, parts_in}
 use Rattle.riichi_hand.specs.Places.{entry_from}
 use Rattle.riichi_hand.proofs.PlaceLemmas.{no_mark, word_from-none}
-use Rattle.riichi_hand.specs.Texts.{texts_of}
 use Rattle.riichi_hand.specs.Jobs.{job_of}
 use Rattle.riichi_hand.specs.Lines.{is_no_record, word_faults, entry_faults, need_faults, text_faults, job_faults}
 use Rattle.riichi_hand.proofs.OutcomeLemmas.{first_fault-later, first_fault-here, outcome-err, outcome-ok}
@@ -61,7 +60,7 @@ returns-in_err-job-clause-value c =
     let parts = parts_in c.in_ok-words.words in
     let fault = c.in_err-job.field-0.0 in
     let refused : c.from_residual-in_err-job.result ≡ Err fault = search rules in
-    let first = first_fault-later (word_faults line) _ c.in_ok-words.ensures.step.0 ∙ first_fault-later (entry_faults parts) _ c.in_ok-fill.ensures.step.0 ∙ first_fault-later (need_faults parts) _ c.in_ok-needed.ensures.0 ∙ first_fault-later (text_faults parts) _ c.in_ok-spell.ensures.0 ∙ ap (λ house. first_fault (job_faults house parts (texts_of parts) parts.job)) (sym c.of.ensures) ∙ ap (λ (texts : Texts). first_fault (job_faults c.of.result parts texts parts.job)) (sym c.in_ok-spell.ensures.1) ∙ c.in_err-job.ensures in
+    let first = first_fault-later (word_faults line) _ c.in_ok-words.ensures.step.0 ∙ first_fault-later (entry_faults parts) _ c.in_ok-fill.ensures.step.0 ∙ first_fault-later (need_faults parts) _ c.in_ok-needed.ensures.0 ∙ first_fault-later (text_faults parts) _ c.in_ok-spell.ensures.0 ∙ ap (λ (texts : Texts). first_fault (job_faults c.args.rules parts texts parts.job)) (sym c.in_ok-spell.ensures.1) ∙ c.in_err-job.ensures in
     refused ∙ sym (outcome-err c.args.rules line parts fault c.if-line-gt-MOST_LINE.false some c.in_ok-words.ensures.step.1 first)
 
 pub returns-clause-value : goal.returns-clause-value
@@ -69,8 +68,8 @@ returns-clause-value c =
     let line = c.args.line.now in
     let some : is_no_record line ≡ false = sym c.is_no_record.ensures ∙ c.if-is_no_record.false in
     let parts = parts_in c.in_ok-words.words in
-    let none = first_fault-later (word_faults line) _ c.in_ok-words.ensures.step.0 ∙ first_fault-later (entry_faults parts) _ c.in_ok-fill.ensures.step.0 ∙ first_fault-later (need_faults parts) _ c.in_ok-needed.ensures.0 ∙ first_fault-later (text_faults parts) _ c.in_ok-spell.ensures.0 ∙ ap (λ house. first_fault (job_faults house parts (texts_of parts) parts.job)) (sym c.of.ensures) ∙ ap (λ (texts : Texts). first_fault (job_faults c.of.result parts texts parts.job)) (sym c.in_ok-spell.ensures.1) ∙ c.in_ok-job.ensures.0 in
-    let job = c.in_ok-job.ensures.1 ∙ ap (λ (texts : Texts). job_of c.of.result parts texts parts.job) c.in_ok-spell.ensures.1 ∙ ap (λ house. job_of house parts (texts_of parts) parts.job) c.of.ensures in
+    let none = first_fault-later (word_faults line) _ c.in_ok-words.ensures.step.0 ∙ first_fault-later (entry_faults parts) _ c.in_ok-fill.ensures.step.0 ∙ first_fault-later (need_faults parts) _ c.in_ok-needed.ensures.0 ∙ first_fault-later (text_faults parts) _ c.in_ok-spell.ensures.0 ∙ ap (λ (texts : Texts). first_fault (job_faults c.args.rules parts texts parts.job)) (sym c.in_ok-spell.ensures.1) ∙ c.in_ok-job.ensures.0 in
+    let job = c.in_ok-job.ensures.1 ∙ ap (λ (texts : Texts). job_of c.args.rules parts texts parts.job) c.in_ok-spell.ensures.1 in
     outcome-ok c.args.rules line parts c.in_ok-job.job c.if-line-gt-MOST_LINE.false some c.in_ok-words.ensures.step.1 none job
 
 -- where a word after the hand is at fault

@@ -1,0 +1,189 @@
+-- What the words behind a command ask for, by what clap found under the names of its arguments: a table of commands and requests.
+use Rattle.std.specs.Prelude.{◌≡◌, ◌⊎◌, ℕ, Bool, true, false, not, ◌||◌, List, [], ◌∷◌, Option, None, Some, map, drop, option_map, option_and_then, unwrap_or, slice_get, codes, if◌then◌else◌}
+use Rattle.std.specs.Borrow.{Bor}
+use Rattle.std.specs.Option.{option_map_or}
+use Rattle.std.specs.Str.Parse.{ParsesUnsigned}
+use Rattle.std.specs.declared.num.ParseIntError.{ParseIntError}
+use Rattle.clap.specs.Matches.{ReadsOne, first_value, found_of, matched_of, one_text, raw_values, subcommand_name_of}
+use Rattle.clap.specs.Simple.{subcommand_rows_of}
+use Rattle.clap.specs.Walk.{rows_of}
+use Rattle.clap.specs.declared.parser.matches.ArgMatches.{ArgMatches}
+use Rattle.clap.specs.declared.parser.matches.Found.{Found}
+use Rattle.riichi_hand.specs.RulesText.{NamesRules, IsWrongAt}
+use Rattle.desk_cli.specs.Commands.{command_named, is_job}
+use Rattle.desk_cli.specs.declared.command.CommandName.{CommandName}
+use Rattle.desk_cli.specs.declared.command.CommandName.TheVariants as commands
+use Rattle.desk_cli.specs.declared.request.Form.{Form}
+use Rattle.desk_cli.specs.declared.request.Form.TheVariants as forms
+use Rattle.desk_cli.specs.declared.request.Lines.{Lines}
+use Rattle.desk_cli.specs.declared.request.Lines.TheVariants as sources
+use Rattle.desk_cli.specs.declared.request.Manner.{Manner}
+use Rattle.desk_cli.specs.declared.request.Request.{Request}
+use Rattle.desk_cli.specs.declared.request.Request.TheVariants as requests
+
+-- ---- what stands under the name of an argument
+
+-- A flag is given or not, as clap reads its value; without one it isn't.
+pub record IsFlag (found : Found) (name : List ℕ) (is_given : Bool) : Type 0 where
+  pub absent : one_text found name ≡ None → is_given ≡ false
+  pub given : one_text found name ≡ Some (codes "true") → is_given ≡ true
+  pub not_given : one_text found name ≡ Some (codes "false") → is_given ≡ false
+
+-- A number, where one is given.
+pub record IsNumber (found : Found) (name : List ℕ) (number : Option ℕ) : Type 0 where
+  pub absent : one_text found name ≡ None → number ≡ None
+  pub given : (text : List ℕ) → one_text found name ≡ Some text → ReadsOne {E = ParseIntError} (ParsesUnsigned 32 10) text number
+
+abbrev pub texts : List (Bor (List ℕ)) → List (List ℕ)
+texts words = map (λ word. word.now) words
+
+-- the words, where any are given
+abbrev pub words_under : Found → List ℕ → Option (List (List ℕ))
+words_under found name = option_map raw_values (matched_of found name)
+
+-- the text of the rules; without the option those of the first profile
+abbrev pub rules_option : Found → List ℕ
+rules_option found = unwrap_or (first_value found (codes "rules")) (codes "1")
+
+-- The text names no rules: this is what stands from its first wrong word on.
+pub record IsUnknown (found : Found) (word : List ℕ) : Type 0 where
+  pub place : ℕ
+  pub is_wrong : IsWrongAt (rules_option found) place
+  pub word_is : word ≡ drop place (rules_option found)
+
+-- ---- how lines are answered
+
+pub record IsManner (found : Found) (manner : Manner) : Type 0 where
+  pub rules : NamesRules (rules_option found) manner.rules
+  pub numbers : IsFlag found (codes "number") manner.is_numbered
+  pub workers : IsNumber found (codes "workers") manner.workers
+
+-- `line` answers in words, or with --json as objects
+pub record IsLineForm (found : Found) (form : Form) : Type 0 where
+  pub json : Bool
+  pub is_given : IsFlag found (codes "json") json
+  pub form_is : form ≡ (if json then forms.Json else forms.Words)
+
+-- `explain` answers with the reasons, and with --all by every reading; with --json as objects, by every reading
+pub record IsExplainForm (found : Found) (form : Form) : Type 0 where
+  pub json : Bool
+  pub all : Bool
+  pub json_given : IsFlag found (codes "json") json
+  pub all_given : IsFlag found (codes "all") all
+  pub form_is : form ≡ (if json then forms.JsonReasons else if all then forms.AllReasons else forms.Reasons)
+
+-- ---- which lines are answered
+
+-- those of the files that --file names, or of standard input
+abbrev pub AreLines : Found → Lines → Type 0
+AreLines found sources.Input = words_under found (codes "file") ≡ None
+AreLines found (sources.Files files) = words_under found (codes "file") ≡ Some (texts files.now)
+AreLines found other = ⊥
+
+-- the words are one line where the first is a job
+abbrev pub are_one_line : List (List ℕ) → Bool
+are_one_line words = option_map_or is_job (slice_get words 0) false
+
+-- the same, or the words of one line, or words that are lines each
+abbrev pub AreExplained : Found → Lines → Type 0
+AreExplained found sources.Input = (words_under found (codes "file") ≡ None) × (words_under found (codes "LINE") ≡ None)
+AreExplained found (sources.Files files) = words_under found (codes "file") ≡ Some (texts files.now)
+AreExplained found (sources.One words) = (words_under found (codes "file") ≡ None) × (words_under found (codes "LINE") ≡ Some (texts words.now)) × (are_one_line (texts words.now) ≡ true)
+AreExplained found (sources.Each words) = (words_under found (codes "file") ≡ None) × (words_under found (codes "LINE") ≡ Some (texts words.now)) × (are_one_line (texts words.now) ≡ false)
+AreExplained found other = ⊥
+
+-- one line: the command as its job, the hand, and what is told of it
+abbrev pub IsRecordLine : CommandName → Found → Lines → Type 0
+IsRecordLine command found (sources.Record job hand words) =
+    (job ≡ command) × (first_value found (codes "HAND") ≡ Some hand.now)
+    × (option_map (λ told. texts told.now) words ≡ words_under found (codes "WORD"))
+IsRecordLine command found other = ⊥
+
+abbrev pub are_of_files : Lines → Bool
+are_of_files (sources.Files files) = true
+are_of_files other = false
+
+-- how far the answers are is shown of files alone, and not with --quiet
+pub record IsShown (found : Found) (lines : Lines) (is_quiet : Bool) : Type 0 where
+  pub quiet : Bool
+  pub is_given : IsFlag found (codes "quiet") quiet
+  pub quiet_is : is_quiet ≡ (quiet || not (are_of_files lines))
+
+-- ---- requests
+
+-- Record lines are to be answered, if the rules are any.
+abbrev pub AsksForLines : Found → (Lines → Form → Bool → Type 0) → Request → Type 0
+AsksForLines found Are (requests.Lines lines manner is_quiet) = Are lines manner.form is_quiet × IsManner found manner
+AsksForLines found Are (requests.UnknownRules word) = IsUnknown found word.now
+AsksForLines found Are other = ⊥
+
+abbrev pub IsLine : Found → Lines → Form → Bool → Type 0
+IsLine found lines form is_quiet = AreLines found lines × IsLineForm found form × IsShown found lines is_quiet
+
+abbrev pub IsExplain : Found → Lines → Form → Bool → Type 0
+IsExplain found lines form is_quiet = AreExplained found lines × IsExplainForm found form × (is_quiet ≡ true)
+
+abbrev pub IsRecord : CommandName → Found → Lines → Form → Bool → Type 0
+IsRecord command found lines form is_quiet = IsRecordLine command found lines × (form ≡ forms.Words) × (is_quiet ≡ true)
+
+abbrev pub are_none : Option (List (List ℕ)) → Bool
+are_none None = true
+are_none (Some []) = true
+are_none (Some (word ∷ words)) = false
+
+-- `waits` with a hand alone
+abbrev pub is_bare : CommandName → Found → Bool
+is_bare commands.Waits found = are_none (words_under found (codes "WORD"))
+is_bare command found = false
+
+-- a line of a record, or the waits of a hand alone
+abbrev pub AsksForRecord : CommandName → Found → Option Request → Type 0
+AsksForRecord command found None = first_value found (codes "HAND") ≡ None
+AsksForRecord command found (Some (requests.Waits hand)) =
+    (is_bare command found ≡ true) × (first_value found (codes "HAND") ≡ Some hand.now)
+AsksForRecord command found (Some other) =
+    (is_bare command found ≡ false) × AsksForLines found (IsRecord command found) other
+
+abbrev pub AsksForReplay : Found → Option Request → Type 0
+AsksForReplay found None = first_value found (codes "FILE") ≡ None
+AsksForReplay found (Some (requests.Replay file)) = first_value found (codes "FILE") ≡ Some file.now
+AsksForReplay found (Some other) = ⊥
+
+-- tables that are files, by so many workers
+abbrev pub AsksForScore : Found → Option Request → Type 0
+AsksForScore found None = (words_under found (codes "FILE") ≡ None) ⊎ IsNumber found (codes "workers") None
+AsksForScore found (Some (requests.Score files workers rules is_numbered is_quiet)) =
+    (words_under found (codes "FILE") ≡ Some (texts files.now)) × IsNumber found (codes "workers") (Some workers)
+    × NamesRules (rules_option found) rules × IsFlag found (codes "number") is_numbered × IsFlag found (codes "quiet") is_quiet
+AsksForScore found (Some (requests.UnknownRules word)) = IsUnknown found word.now
+AsksForScore found (Some other) = ⊥
+
+abbrev pub IsSome : (Request → Type 0) → Option Request → Type 0
+IsSome Is None = ⊥
+IsSome Is (Some request) = Is request
+
+-- what a command asks for
+abbrev pub IsAsked : CommandName → Found → Option Request → Type 0
+IsAsked commands.Line found asked = IsSome (AsksForLines found (IsLine found)) asked
+IsAsked commands.Explain found asked = IsSome (AsksForLines found (IsExplain found)) asked
+IsAsked commands.Replay found asked = AsksForReplay found asked
+IsAsked commands.Score found asked = AsksForScore found asked
+IsAsked commands.HelpCodes found asked = asked ≡ Some requests.HelpCodes
+IsAsked commands.HelpRules found asked = asked ≡ Some requests.HelpRules
+IsAsked commands.HelpYaku found asked = asked ≡ Some requests.HelpYaku
+IsAsked record_command found asked = AsksForRecord record_command found asked
+
+-- ---- the whole command line
+
+abbrev pub command_of : ArgMatches → Option CommandName
+command_of matches = option_and_then command_named (subcommand_name_of matches)
+
+-- clap found this behind the command
+abbrev pub AreWords : ArgMatches → ArgMatches → Type 0
+AreWords matches words = option_map (λ row. row.1) (subcommand_rows_of matches) ≡ Some (rows_of (found_of words))
+
+-- what a command line asks for
+pub record Asks (matches : ArgMatches) (command : CommandName) (asked : Option Request) : Type 0 where
+  pub words : ArgMatches
+  pub are_words : AreWords matches words
+  pub is_asked : IsAsked command (found_of words) asked

@@ -1,0 +1,47 @@
+-- With which exit status the program ends.
+use Rattle.std.specs.Prelude.{◌≡◌, ◌≢◌, ◌⊎◌, ℕ, Bool, Result, Ok, Err, if◌then◌else◌}
+use Rattle.clap.specs.Values.{kind_of}
+use Rattle.clap.specs.declared.error.kind.ErrorKind.TheVariants.{DisplayHelp, DisplayVersion}
+use Rattle.desk_score.specs.Faults.{desk_fault, status_of}
+use Rattle.desk_cli.specs.declared.request.Form.{Form}
+use Rattle.desk_cli.specs.declared.request.Form.TheVariants as forms
+use Rattle.desk_lines.specs.declared.fault.DeskFault.{DeskFault}
+use Rattle.desk_lines.specs.declared.fault.DeskFault.TheVariants as desk_names
+use Rattle.desk_score.specs.declared.score_fault.ScoreFault.TheVariants as fault_names
+use Rattle.riichi_desk.specs.declared.failure.Failure.{Failure}
+use Rattle.riichi_desk.specs.declared.failure.Failure.TheVariants as failures
+
+-- 0 where help or the version was asked for, 2 where the words are wrong, 3 where a file can't be opened; of a fault its own
+abbrev pub HasStatus : Failure → ℕ → Type 0
+HasStatus (failures.Words error) status =
+    ((kind_of error ≡ DisplayHelp) ⊎ (kind_of error ≡ DisplayVersion) → status ≡ 0)
+    × (kind_of error ≢ DisplayHelp → kind_of error ≢ DisplayVersion → status ≡ 2)
+HasStatus failures.Text status = status ≡ 2
+HasStatus (failures.UnknownRule word nearest) status = status ≡ 2
+HasStatus (failures.CannotOpen file) status = status ≡ 3
+HasStatus (failures.Fault fault) status = status ≡ status_of fault
+HasStatus (failures.Explained fault) status = status ≡ status_of (desk_fault fault)
+
+-- the text of help or of wrong words may fail to be written, and that is 3
+abbrev pub IsReportedBy : Failure → ℕ → Type 0
+IsReportedBy (failures.Words error) status = HasStatus (failures.Words error) status ⊎ (status ≡ 3)
+IsReportedBy other status = HasStatus other status
+
+-- a fault where lines are answered in a form
+abbrev pub failure_in : Form → DeskFault → Failure
+failure_in forms.Words fault = failures.Fault (desk_fault fault)
+failure_in forms.Json fault = failures.Fault (desk_fault fault)
+failure_in forms.Reasons fault = failures.Explained fault
+failure_in forms.AllReasons fault = failures.Explained fault
+failure_in forms.JsonReasons fault = failures.Explained fault
+
+-- the answers could not be written
+abbrev pub IsUnwritten : Failure → Type 0
+IsUnwritten (failures.Fault fault_names.Write) = Unit {0}
+IsUnwritten (failures.Explained desk_names.Write) = Unit {0}
+IsUnwritten other = ⊥
+
+-- 0 where no line is refused, and 1 where one is; of a failure its status, or 0 where nobody reads the answers any more
+abbrev pub EndsWith : Result Bool Failure → ℕ → Type 0
+EndsWith (Ok is_refused) status = status ≡ (if is_refused then 1 else 0)
+EndsWith (Err failure) status = IsReportedBy failure status ⊎ (IsUnwritten failure × (status ≡ 0))

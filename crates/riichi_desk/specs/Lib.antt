@@ -1,0 +1,5 @@
+pub mod Answering
+pub mod Told
+pub mod Failures
+pub mod Outcomes
+pub mod Counts

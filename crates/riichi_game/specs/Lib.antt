@@ -1,0 +1,9 @@
+pub mod Outcomes
+pub mod Values
+pub mod Hands
+pub mod Line
+pub mod Following
+pub mod Ends
+pub mod Faults
+pub mod Games
+pub mod Laws

@@ -1,0 +1,175 @@
+//! When a game is over.
+ghost use Rattle.std.specs.Prelude.{◌≡◌, ◌≤◌};
+ghost use Rattle.riichi_game.specs.Ends as spec;
+
+use crate::following::{points_after, stays_after};
+use riichi_hand::Wind;
+use riichi_settle::as_played;
+use riichi_table::{ByPlayer, GameState, LastRound, Outcome, Player, TableRules};
+
+/// Whether the game is over after an outcome, where it is `over` before.
+#[tactic(auto, unfolding(crate::specs::Ends::over_after))]
+pub(crate) fn over_after(
+    over: bool,
+    state: &GameState,
+    rules: &TableRules,
+    outcome: &Outcome,
+) -> bool
+    ensures { result ≡ spec.over_after over state.now rules.now outcome.now }
+{
+    match outcome {
+        Outcome::End => true,
+        Outcome::Penalty { .. } => over,
+        Outcome::Stands { .. } => over,
+        _ => is_over_by_deal(state, rules, outcome),
+    }
+}
+
+fn is_over_by_deal(state: &GameState, rules: &TableRules, outcome: &Outcome) -> bool
+    ensures { result ≡ spec.is_over_by_deal state.now rules.now outcome.now }
+{
+    let win_or_draw = is_win_or_draw(&as_played(rules, outcome));
+    let stays = stays_after(state, rules, outcome);
+    let points = points_after(state, rules, outcome);
+    is_over_with(rules, state, win_or_draw, stays, &points)
+}
+
+fn is_win_or_draw(played: &Outcome) -> bool
+    ensures { result ≡ spec.is_win_or_draw played.now }
+{
+    match played {
+        Outcome::Ron { .. } => true,
+        Outcome::Tsumo { .. } => true,
+        Outcome::Draw { .. } => true,
+        _ => false,
+    }
+}
+
+#[tactic(auto, unfolding(crate::specs::Ends::is_over_with))]
+fn is_over_with(
+    rules: &TableRules,
+    state: &GameState,
+    win_or_draw: bool,
+    stays: bool,
+    points: &ByPlayer<i64>,
+) -> bool
+    ensures { result ≡ spec.is_over_with rules.now state.now win_or_draw stays points.now }
+{
+    (rules.bust && is_bust(points))
+        || is_over_by_length(rules, state, stays, points)
+        || is_over_by_stop(rules, state, win_or_draw, stays, points)
+}
+
+fn is_over_by_length(
+    rules: &TableRules,
+    state: &GameState,
+    stays: bool,
+    points: &ByPlayer<i64>,
+) -> bool
+    ensures { result ≡ spec.is_over_by_length rules.now state.now stays points.now }
+{
+    let behind = is_behind_last(rules, state.round);
+    let enough = is_enough(rules.extra, points);
+    !is_before_last(rules, state.round)
+        && ((ends_round(state, stays) && (behind || enough)) || (behind && enough))
+}
+
+fn is_over_by_stop(
+    rules: &TableRules,
+    state: &GameState,
+    win_or_draw: bool,
+    stays: bool,
+    points: &ByPlayer<i64>,
+) -> bool
+    ensures { result ≡ spec.is_over_by_stop rules.now state.now win_or_draw stays points.now }
+{
+    rules.stop
+        && win_or_draw
+        && state.dealer.is(Player::Fourth)
+        && stays
+        && !is_before_last(rules, state.round)
+        && fourth_leads(points)
+        && (is_behind_last(rules, state.round) || is_enough(rules.extra, points))
+}
+
+/// Whether the round ends, whose fourth dealer doesn't stay.
+fn ends_round(state: &GameState, stays: bool) -> bool
+    ensures { result ≡ spec.ends_round state.now stays }
+{
+    state.dealer.is(Player::Fourth) && !stays
+}
+
+fn round_number(round: Wind) -> u8
+    ensures value { result ≡ spec.round_number round }
+    ensures most { result ≤ 3 }
+{
+    match round {
+        Wind::East => 0,
+        Wind::South => 1,
+        Wind::West => 2,
+        Wind::North => 3,
+    }
+}
+
+fn last_number(length: LastRound) -> u8
+    ensures value { result ≡ spec.last_number length }
+    ensures most { result ≤ 1 }
+{
+    match length {
+        LastRound::East => 0,
+        LastRound::South => 1,
+    }
+}
+
+fn is_before_last(rules: &TableRules, round: Wind) -> bool
+    ensures { result ≡ spec.is_before_last rules.now round }
+{
+    round_number(round) < last_number(rules.length)
+}
+
+/// Whether it is the one round more.
+pub(crate) fn is_behind_last(rules: &TableRules, round: Wind) -> bool
+    ensures { result ≡ spec.is_behind_last rules.now round }
+{
+    last_number(rules.length) < round_number(round)
+}
+
+/// Whether a round stands behind the last, and is not the next one.
+pub(crate) fn is_beyond(rules: &TableRules, round: Wind) -> bool
+    ensures { result ≡ spec.is_beyond rules.now round }
+{
+    last_number(rules.length) + 1 < round_number(round)
+}
+
+#[tactic(auto, unfolding(crate::specs::Ends::is_bust))]
+fn is_bust(points: &ByPlayer<i64>) -> bool
+    ensures { result ≡ spec.is_bust points.now }
+{
+    points.first < 0 || points.second < 0 || points.third < 0 || points.fourth < 0
+}
+
+#[tactic(auto, unfolding(crate::specs::Ends::has_so_many))]
+fn has_so_many(points: &ByPlayer<i64>, most: u32) -> bool
+    ensures { result ≡ spec.has_so_many points.now most }
+{
+    let most = i64::from(most);
+    most <= points.first || most <= points.second || most <= points.third || most <= points.fourth
+}
+
+/// Whether somebody has the points for which no round more is played.
+fn is_enough(extra: Option<u32>, points: &ByPlayer<i64>) -> bool
+    ensures { result ≡ spec.is_enough extra points.now }
+{
+    match extra {
+        None => true,
+        Some(most) => has_so_many(points, most),
+    }
+}
+
+/// Whether the fourth player has more points than each other.
+#[tactic(auto, unfolding(crate::specs::Ends::fourth_leads))]
+fn fourth_leads(points: &ByPlayer<i64>) -> bool
+    ensures { result ≡ spec.fourth_leads points.now }
+{
+    points.first < points.fourth && points.second < points.fourth && points.third < points.fourth
+}

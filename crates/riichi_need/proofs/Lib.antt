@@ -1,0 +1,4 @@
+pub mod Rising
+pub mod Least
+pub mod RowsListed
+pub mod SettledSo

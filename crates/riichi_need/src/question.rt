@@ -1,0 +1,31 @@
+//! What is asked.
+use riichi_table::{ByPlayer, GameState, Player, TableRules};
+
+/// Which place a player is to reach in the next deal.
+#[derive(Clone, Copy, Debug, PartialEq, Eq)]
+pub struct Question {
+    pub rules: TableRules,
+    /// The state before the deal.
+    pub state: GameState,
+    /// Who bets in the deal. The player's own bet comes back and changes nothing.
+    pub bets: ByPlayer<bool>,
+    pub player: Player,
+    /// The place, from 1 to 4.
+    pub place: u8,
+}
+
+/// How the player wins.
+#[derive(Clone, Copy, Debug, PartialEq, Eq)]
+pub enum Way {
+    Ron { from: Player },
+    Tsumo,
+}
+
+/// What counts as the place.
+#[derive(Clone, Copy, Debug, PartialEq, Eq)]
+pub enum Aim {
+    /// Fewer others than the place have as many points or more.
+    Strictly,
+    /// Fewer others than the place are ahead, by the rules' ties.
+    WithTie,
+}

@@ -1,0 +1,4 @@
+pub mod Places
+pub mod Bonuses
+pub mod Finals
+pub mod Laws

@@ -1,0 +1,5 @@
+pub mod Players
+pub mod Tables
+pub mod RulesFaults
+pub mod States
+pub mod Worths

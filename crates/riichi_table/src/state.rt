@@ -1,0 +1,38 @@
+//! What a table shows between two deals.
+ghost use Rattle.std.specs.Prelude.{◌≡◌};
+ghost use Rattle.riichi_table.specs.States as spec;
+
+use crate::player::{ByPlayer, Player};
+use crate::rules::TableRules;
+use riichi_hand::Wind;
+
+/// What a table shows between two deals.
+#[derive(Clone, Copy, Debug, PartialEq, Eq)]
+pub struct GameState {
+    /// The points of each player, which may be negative.
+    pub points: ByPlayer<i32>,
+    /// The prevalent wind.
+    pub round: Wind,
+    /// Who sits East.
+    pub dealer: Player,
+    /// How many counters (honba) lie on the table.
+    pub counters: u8,
+    /// How many riichi sticks lie on the table, of 1000 points each.
+    pub sticks: u8,
+}
+
+impl GameState {
+    /// The state before the first deal: the start of the rules for each, East, the first player, no counter and no stick. A start
+    /// over 1000000, which [`TableRules::fault`] refuses, counts as 1000000.
+    pub fn first(rules: &TableRules) -> GameState
+        ensures { result ≡ spec.first_state rules.now }
+    {
+        GameState {
+            points: ByPlayer::all(rules.start.min(1_000_000) as i32),
+            round: Wind::East,
+            dealer: Player::First,
+            counters: 0,
+            sticks: 0,
+        }
+    }
+}
