@@ -35,6 +35,7 @@ NOT_RUN = {
     "git ": "changes a tree of sources: tests/documents tries whether the diff applies",
     "bench/": "measures for minutes: the gate measures nothing",
     "cargo build --release --offline": "builds bench/, which the gate doesn't measure",
+    "./target/release/bench": "is built in bench/, which the gate doesn't measure",
     "install -D": "writes to /usr/local",
     "@only ": "is of the archives for other systems: tests/packages.sh builds it",
     "docs/SCALE.md": "tests/cores.sh and tests/machines.sh run its recipes",
