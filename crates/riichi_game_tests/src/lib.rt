@@ -11,10 +11,20 @@ mod facts;
 #[cfg(test)]
 mod finals;
 #[cfg(test)]
+mod last_deals;
+#[cfg(test)]
+mod liability;
+#[cfg(test)]
 mod needs;
 #[cfg(test)]
 mod refused;
 #[cfg(test)]
 mod settled;
 #[cfg(test)]
+mod unusual;
+#[cfg(test)]
 mod values;
+#[cfg(test)]
+mod winners;
+#[cfg(test)]
+mod worked;

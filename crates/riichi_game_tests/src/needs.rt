@@ -104,3 +104,38 @@ fn hands_of_a_row(rt: HostRuntime) {
     assert!(rt; !pays_so(rules, By::Ron, 800, 4, 50));
     assert!(rt; !pays_so(rules, By::Tsumo, 400, 2, 25));
 }
+
+/// What the fourth needs for the second place, with two counters and a stick: 27000 + 1600 and what is paid, `p`.
+#[test]
+fn for_the_second_place(rt: HostRuntime) {
+    let state = GameState {
+        points: by(35000, 25000, 32000, 27000),
+        round: Wind::South,
+        dealer: Player::Third,
+        counters: 2,
+        sticks: 1,
+    };
+    let asked = Question {
+        rules: TableRules::club(),
+        state,
+        bets: nobody(),
+        player: Player::Fourth,
+        place: 2,
+    };
+    // The counters are paid beside each row, 600 by ron and 200 each by self-draw. Off the first, who keeps 34400 - p: passed where
+    // 2p > 5800, while the third with 32000 may stay ahead; 2900 ties, 3200 passes. Off the second the third has 32000, so p > 3400:
+    // 3200 is too little and 3600 the next. Off the third, who keeps 31400 - p: p > 1400, 1600. By self-draw n by the first two and
+    // d by the third, who deals: 28600 + 2n + d > 31800 - d, so n + d > 1600: 500/1000 is too little, 600/1200 the next.
+    by_ron(&rt, &asked, Player::First, 3800, 3500);
+    by_ron(&rt, &asked, Player::Second, 4200, 4200);
+    by_ron(&rt, &asked, Player::Third, 2200, 2200);
+    let payment = Payment::Tsumo {
+        other: 800,
+        dealer: 1400,
+    };
+    let needs = needs_of(&asked);
+    assert_eq!(rt;
+        needs.by_tsumo.strictly.map(|row| row.payment),
+        Some(payment)
+    );
+}
