@@ -48,6 +48,11 @@ extern "C" {
 #define RIICHI_BLESSING_OF_MAN  0x800
 #define RIICHI_HOUSE_ONE        0x107f0
 
+/* The number of the rules that a text names, as answers and the option --rules have them: `2`, or a profile with changes, as
+ * `1+red-fives-ura`. It is that of the rules of a house, also for a profile. Where the text names none it is 0, and `*wrong` is set
+ * to the place of the first wrong word, in bytes from 0; else that stays as it is. */
+uint32_t riichi_rules(const uint8_t *text, size_t text_len, size_t *wrong);
+
 /* Answers one line: a win, a hand's waits or a shape, as docs/NOTATION.md says them.
  *
  *   rules     RIICHI_RULES_ONE, RIICHI_RULES_TWO or rules of a house. Any other number is answered by `refused rules`.

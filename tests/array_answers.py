@@ -159,6 +159,26 @@ def refused(*given: object) -> bool:
     return False
 
 
+def wrong_rules(rules: object) -> str:
+    """What is said of rules that are none."""
+    try:
+        riichi_desk.text("waits 1m", rules)  # type: ignore[arg-type]
+    except ValueError as error:
+        return str(error)
+    return ""
+
+
+def try_rules() -> None:
+    line = "win 123406789m22s34p on=2p by=ron seat=S round=E dora=1m ura=1p riichi=1"
+    house = riichi_desk.Rules(red_fives=True, ura=False)
+    told = riichi_desk.answer(line, house)
+    assert isinstance(told, riichi_desk.Won) and told.rules == "1+red-fives-ura"
+    assert riichi_desk.text(line, told.rules) == riichi_desk.text(line, house)
+    assert riichi_desk.text(line, "2") == riichi_desk.text(line, 2)
+    assert "from byte 2 on" in wrong_rules("1+red-five") and "from byte 0 on" in wrong_rules("")
+    assert wrong_rules(True) and wrong_rules(1.0) and wrong_rules(3)
+
+
 def main() -> None:
     draw = random.Random(7)
     for size in 13, 14:
@@ -169,6 +189,7 @@ def main() -> None:
     assert refused(bytes(33)) and refused(bytes(68), bytes(4)) and refused(array.array("H", bytes(68)))
     try_wins(1)
     try_wins(2)
+    try_rules()
     assert len(riichi_desk.wins(b"")) == 0
     print("all right")
 

@@ -70,6 +70,14 @@ export class Desk {
     return this.#ask("explain", line, rules).split("\n").filter((it) => it !== "");
   }
 
+  // The number of the rules that a text such as `2` or `1+red-fives-ura` names; undefined where it names none.
+  rulesOf(text) {
+    const bytes = new TextEncoder().encode(text).subarray(0, MOST_LINE);
+    new Uint8Array(this.#exports.memory.buffer).set(bytes, this.#line);
+    const rules = this.#exports.riichi_rules(BigInt(this.#line), BigInt(bytes.length), BigInt(this.#room));
+    return rules === 0 ? undefined : rules;
+  }
+
   version() {
     return this.#read(this.#exports.riichi_version(BigInt(this.#room), BigInt(PAGE)));
   }

@@ -12,7 +12,7 @@ let openLine = () => {};
 
 // The lines of the text that have an answer, with their numbers and answers.
 function answers() {
-  const { lines, rules, first } = linesOf(byId("lines").value, state.rules);
+  const { lines, rules, first } = linesOf(state.desk, byId("lines").value, state.rules);
   const found = lines.map((line, at) => ({ number: first + at, line, rules, told: state.desk.answer(line, rules) }));
   return found.filter(({ told }) => told !== "");
 }

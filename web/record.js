@@ -57,10 +57,10 @@ export function lineOf(record) {
 }
 
 // The lines of a text, and the profile that they have: that of its first line, which then isn't among them, or else this one.
-export function linesOf(text, rules) {
+export function linesOf(desk, text, rules) {
   const lines = text.split("\n").map((line) => line.replace(/\r$/, ""));
   const profile = /^ *rules +([12]) *$/.exec(lines[0]) ?? /^# --rules (\S+)$/.exec(lines[0]);
-  const set = profile ? rulesOfText(profile[1]) : undefined;
+  const set = profile ? rulesOfText(desk, profile[1]) : undefined;
   return set ? { lines: lines.slice(1), rules: set, first: 2 } : { lines, rules, first: 1 };
 }
 

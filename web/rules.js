@@ -52,18 +52,10 @@ export function profileOf(rules) {
   return [1, 2].find((profile) => PROFILES[profile] === houseOf(rules));
 }
 
-// The rules of such a text; undefined where it is none.
-export function rulesOfText(text) {
-  let rules = Number(text[0]);
-  let rest = text.slice(1);
-  if (!areRules(rules)) return undefined;
-  while (rest !== "") {
-    const place = RULES.findIndex(([word]) => /^[+-]/.test(rest) && new RegExp(`^${word}([+-]|$)`).test(rest.slice(1)));
-    if (place < 0) return undefined;
-    rules = withRule(rules, place, rest[0] === "+");
-    rest = rest.slice(1 + RULES[place][0].length);
-  }
-  return rules;
+// The rules of such a text, which the desk reads; undefined where it is none.
+export function rulesOfText(desk, text) {
+  const rules = desk.rulesOf(text);
+  return rules && (profileOf(rules) ?? rules);
 }
 
 // On a button.

@@ -3,6 +3,7 @@
 import { rulesLines } from "./answers.js";
 import { byId, say } from "./elements.js";
 import { linesOf } from "./record.js";
+import { state } from "./state.js";
 
 const MOST_NAME = 60;
 
@@ -14,7 +15,7 @@ export function textOfHands(hands, rules) {
 
 // The hands of such a text: a comment directly above a line is its name.
 export function handsOfText(text) {
-  const { lines, rules } = linesOf(text, 1);
+  const { lines, rules } = linesOf(state.desk, text, 1);
   const nameAbove = (at) => (lines[at - 1]?.startsWith("#") ? lines[at - 1].slice(1).trim().slice(0, MOST_NAME) : "");
   const hands = lines.map((line, at) => ({ name: nameAbove(at), line: line.trim(), rules }));
   return hands.filter(({ line }) => line !== "" && !line.startsWith("#"));

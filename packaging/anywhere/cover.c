@@ -50,6 +50,20 @@ size_t riichi_version(uint8_t *room, size_t room_len) {
     return needed;
 }
 
+/* (a text that is longer than its room names no rules here) */
+uint32_t riichi_rules(const uint8_t *text, size_t text_len, size_t *wrong) {
+    uint8_t *own = memory();
+    uint64_t place = MOST_TEXT;
+    uint32_t rules = 0;
+    if (text_len <= MOST_TEXT) {
+        memcpy(own + GIVEN, text, text_len);
+        rules = Z_deskZ_riichi_rules(&module, GIVEN, text_len, TAKEN);
+        memcpy(&place, own + TAKEN, sizeof place);
+    }
+    if (rules == 0) *wrong = (size_t)place;
+    return rules;
+}
+
 /* How much of a text one call is given: whole lines; of a line that is longer than its room, so much that it is refused. */
 static size_t front_of(const uint8_t *text, size_t text_len) {
     size_t front = text_len < MOST_TEXT ? text_len : MOST_TEXT;

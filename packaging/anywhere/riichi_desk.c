@@ -67,33 +67,10 @@ static void answer(const uint8_t *text, size_t length) {
     }
 }
 
-/* The rules that a table may choose, in the order of their bits. */
-static const char *const rule_words[] = {"red-fives", "raise", "add-yakuman", "double-yakuman", "counted-yakuman",
-    "double-wind-pair", "kong-draw-fu", "open-simples", "open-pinfu-fu", "ippatsu", "ura", "blessing-of-man"};
-enum { RULES = sizeof rule_words / sizeof *rule_words };
-
-/* The rule whose word a text begins with, before its end or a sign; RULES where there is none. */
-static unsigned rule_of(const char *text) {
-    unsigned place = 0;
-    for (; place < RULES; place++) {
-        size_t size = strlen(rule_words[place]);
-        if (strncmp(text, rule_words[place], size) == 0 && strchr("+-", text[size])) break;
-    }
-    return place;
-}
-
 /* The rules of a text such as `2` or `1+red-fives-ura`; 0 where it has none. */
 static uint32_t rules_of(const char *text) {
-    if (text[0] != '1' && text[0] != '2') return 0;
-    if (text[1] == 0) return text[0] == '1' ? RIICHI_RULES_ONE : RIICHI_RULES_TWO;
-    uint32_t rules = RIICHI_HOUSE_ONE | (text[0] == '2' ? RIICHI_RED_FIVES | RIICHI_RAISE : 0);
-    for (text++; *text != 0;) {
-        unsigned place = *text == '+' || *text == '-' ? rule_of(text + 1) : RULES;
-        if (place == RULES) return 0;
-        rules = *text == '+' ? rules | (1u << place) : rules & ~(1u << place);
-        text += 1 + strlen(rule_words[place]);
-    }
-    return rules;
+    size_t wrong;
+    return riichi_rules((const uint8_t *)text, strlen(text), &wrong);
 }
 
 /* Whether a line is ` rules N `, the words of a profile; it is then set. */

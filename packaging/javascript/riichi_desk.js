@@ -79,17 +79,11 @@ export function house(changes = {}) {
 
 // The rules of a text such as `2` or `1+red-fives-ura`, as the option --rules has them; undefined where it has none.
 export function rulesOf(text) {
-  const profiles = { 1: house(), 2: house({ redFives: true, raise: true }) };
-  const words = RULES.map((name) => name.replace(/[A-Z]/g, (letter) => `-${letter.toLowerCase()}`));
-  if (text === "1" || text === "2") return Number(text);
-  let rules = profiles[text[0]];
-  for (let rest = text.slice(1); rules !== undefined && rest !== ""; ) {
-    const place = words.findIndex((word) => /^[+-]/.test(rest) && rest.startsWith(word, 1) && /^([+-]|$)/.test(rest.slice(1 + word.length)));
-    if (place < 0) return undefined;
-    rules = rest[0] === "+" ? rules | (1 << place) : rules & ~(1 << place);
-    rest = rest.slice(1 + words[place].length);
-  }
-  return rules;
+  const { read: taken, written } = encoder.encodeInto(text, lineRoom);
+  const rules = taken === text.length && calls.riichi_rules(AT[0], BigInt(written), BigInt(TAKEN));
+  if (!rules) return undefined;
+  const profile = [house(), house({ redFives: true, raise: true })].indexOf(rules);
+  return profile < 0 ? rules : profile + 1;
 }
 
 function tested(rules) {

@@ -5,3 +5,4 @@ pub mod ManyLines
 pub mod Rows
 pub mod WinRows
 pub mod JsonReasons
+pub mod RulesRead

@@ -29,6 +29,7 @@ use placing::place;
 pub use reasons::riichi_explain;
 use riichi_hand::{fault_text, read_line};
 pub use rows::riichi_answer_rows;
+pub use rules::riichi_rules;
 use rules::rules_numbered;
 pub use wins::riichi_wins;
 

@@ -1,4 +1,5 @@
 mod facts;
+mod rules;
 mod wins;
 
 use super::{

@@ -10,7 +10,8 @@ use crate::switch::Switch;
 /// meant, and what was read is printed as a text that reads the same.
 #[tactic(auto, using(crate::proofs::RulesTexts::printed_names))]
 pub fn printed_rules_are_read_back()
-    ensures printed { (rules : Rules) → rules < 2 ^ Switch.COUNT → NamesRules (rules_words rules) rules }
+    ensures printed { (rules : Rules) → rules < 2 ^ Switch.COUNT
+        → NamesRules (rules_words rules) rules }
     ensures one { (text : List ℕ) (rules other : Rules) → NamesRules text rules
         → NamesRules text other → rules ≡ other }
 {}

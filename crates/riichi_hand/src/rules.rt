@@ -42,6 +42,13 @@ impl Rules {
         Rules { bits }
     }
 
+    /// Bit n is set where rule n of the table is on.
+    pub fn bits(self) -> u16
+        ensures { result ≡ self }
+    {
+        self.bits
+    }
+
     /// Whether a rule is on.
     #[inline(always)]
     pub fn has(self, switch: Switch) -> bool

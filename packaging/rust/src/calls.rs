@@ -9,6 +9,7 @@ extern "C" {
     pub fn riichi_json(rules: u32, line: *const u8, line_len: usize, room: *mut u8, room_len: usize) -> usize;
     pub fn riichi_explain(rules: u32, line: *const u8, line_len: usize, room: *mut u8, room_len: usize) -> usize;
     pub fn riichi_explain_json(rules: u32, line: *const u8, line_len: usize, room: *mut u8, room_len: usize) -> usize;
+    pub fn riichi_rules(text: *const u8, text_len: usize, wrong: *mut usize) -> u32;
     pub fn riichi_version(room: *mut u8, room_len: usize) -> usize;
     pub fn riichi_answer_lines(
         rules: u32,

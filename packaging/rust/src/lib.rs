@@ -19,7 +19,7 @@ pub mod arrays;
 mod calls;
 mod rules;
 
-pub use rules::{House, Rules};
+pub use rules::{House, Rules, RulesFault};
 
 type Call = unsafe extern "C" fn(u32, *const u8, usize, *mut u8, usize) -> usize;
 type CallOfLines = unsafe extern "C" fn(u32, *const u8, usize, *mut u8, usize, *mut usize) -> usize;

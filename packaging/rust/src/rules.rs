@@ -1,4 +1,6 @@
 //! The rules that a table plays by.
+use crate::calls;
+use std::{error, fmt, str::FromStr};
 
 /// The rules: a profile, or those of a house. RULES.md of the release has them.
 #[derive(Clone, Copy, Debug, PartialEq, Eq, Hash, Default)]
@@ -65,6 +67,15 @@ impl Default for House {
 }
 
 impl Rules {
+    /// The same, each rule by itself.
+    fn house(self) -> House {
+        match self {
+            Rules::One => House::default(),
+            Rules::Two => House { red_fives: true, raise: true, ..House::default() },
+            Rules::House(house) => house,
+        }
+    }
+
     /// The number that a call takes.
     pub(crate) fn number(self) -> u32 {
         match self {
@@ -79,6 +90,25 @@ impl House {
     /// The bits of the rules that are on, and the one that says that they are of a house.
     fn number(self) -> u32 {
         self.bits().into_iter().zip(0..).fold(0x10000, |number, (is_on, place)| number | u32::from(is_on) << place)
+    }
+
+    /// Those whose bits these are.
+    fn of_bits(bits: u32) -> Self {
+        let is_on = |place: u32| bits >> place & 1 == 1;
+        House {
+            red_fives: is_on(0),
+            raise: is_on(1),
+            add_yakuman: is_on(2),
+            double_yakuman: is_on(3),
+            counted_yakuman: is_on(4),
+            double_wind_pair: is_on(5),
+            kong_draw_fu: is_on(6),
+            open_simples: is_on(7),
+            open_pinfu_fu: is_on(8),
+            ippatsu: is_on(9),
+            ura: is_on(10),
+            blessing_of_man: is_on(11),
+        }
     }
 
     /// The rules in the order of their bits, the lowest first.
@@ -97,5 +127,45 @@ impl House {
             self.ura,
             self.blessing_of_man,
         ]
+    }
+}
+
+/// A text that names no rules.
+#[derive(Clone, Copy, Debug, PartialEq, Eq)]
+pub struct RulesFault {
+    /// Where its first wrong word stands, in bytes from 0.
+    pub place: usize,
+}
+
+impl fmt::Display for RulesFault {
+    fn fmt(&self, out: &mut fmt::Formatter<'_>) -> fmt::Result {
+        write!(out, "no rules from byte {} on; they are 1, 2, or with changes, as 1+red-fives-ura", self.place)
+    }
+}
+
+impl error::Error for RulesFault {}
+
+/// The rules of a text, as answers and the option `--rules` have them:
+///
+/// ```
+/// use riichi_desk::Rules;
+/// assert_eq!("2".parse(), Ok(Rules::Two));
+/// assert!("1+red-fives-ura".parse::<Rules>().is_ok());
+/// assert_eq!("1+red-five".parse::<Rules>().map_err(|fault| fault.place), Err(2));
+/// ```
+impl FromStr for Rules {
+    type Err = RulesFault;
+
+    fn from_str(text: &str) -> Result<Self, RulesFault> {
+        let mut place = 0;
+        // SAFETY: the pointers are those of a slice and of a `&mut`, so they are valid for their lengths, not null, and overlap nothing.
+        let number = unsafe { calls::riichi_rules(text.as_ptr(), text.len(), &mut place) };
+        if number == 0 {
+            return Err(RulesFault { place });
+        }
+        let house = House::of_bits(number);
+        let profiles = [Rules::One, Rules::Two];
+        let profile = profiles.into_iter().find(|it| it.house() == house);
+        Ok(profile.unwrap_or(Rules::House(house)))
     }
 }

@@ -29,6 +29,7 @@ _ARGUMENTS = {
 for _name, _types in _ARGUMENTS.items():
     _call = getattr(CALLS, _name)
     _call.argtypes, _call.restype = _types, _SIZE
+CALLS.riichi_rules.argtypes, CALLS.riichi_rules.restype = [ctypes.c_char_p, _SIZE, ctypes.POINTER(_SIZE)], _RULES
 
 
 class _Rooms(threading.local):

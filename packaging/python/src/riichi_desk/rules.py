@@ -2,8 +2,11 @@
 
 from __future__ import annotations
 
+import ctypes
 from dataclasses import dataclass, fields
 from typing import Union
+
+from .library import CALLS
 
 _HOUSE = 0x10000
 
@@ -32,13 +35,24 @@ class Rules:
         return _HOUSE + sum(bool(getattr(self, rule.name)) << place for place, rule in enumerate(fields(self)))
 
 
-Profile = Union[int, Rules]
+Profile = Union[int, str, Rules]
+"""A profile, 1 or 2; a text such as `1+red-fives-ura`, as answers and the option --rules have it; or the rules of a house."""
+
+
+def _read(text: str) -> int:
+    given, wrong = text.encode("utf-8", "surrogateescape"), ctypes.c_size_t()
+    number: int = CALLS.riichi_rules(given, len(given), ctypes.byref(wrong))
+    if number == 0:
+        raise ValueError(f"rules {text!r}: no rules from byte {wrong.value} on; they are 1, 2, or with changes, as 1+red-fives-ura")
+    return number
 
 
 def rules_of(rules: Profile) -> int:
     """The number of a profile, or of the rules of a house."""
     if isinstance(rules, Rules):
         return rules.number()
-    if rules not in (1, 2):
-        raise ValueError(f"rules is 1, 2 or Rules(..), and not {rules}")
+    if isinstance(rules, str):
+        return _read(rules)
+    if type(rules) is not int or rules not in (1, 2):
+        raise ValueError(f"rules is 1, 2, a text as '1+red-fives' or Rules(..), and not {rules!r}")
     return rules
