@@ -50,44 +50,35 @@ function put(line) {
   return front.length;
 }
 
-// The rules of a house in the order of their bits, and those that are on in the first profile.
-const RULES = [
-  "redFives",
-  "raise",
-  "addYakuman",
-  "doubleYakuman",
-  "countedYakuman",
-  "doubleWindPair",
-  "kongDrawFu",
-  "openSimples",
-  "openPinfuFu",
-  "ippatsu",
-  "ura",
-  "blessingOfMan",
-];
-const HOUSE = 0x10000;
-const FIRST = 0x7f0;
+// The number of the rules that a text names; 0 where it names none.
+function numberOf(text) {
+  const { read: taken, written } = encoder.encodeInto(text, lineRoom);
+  return taken === text.length ? calls.riichi_rules(AT[0], BigInt(written), BigInt(TAKEN)) : 0;
+}
+
+// The word of a rule whose name in JavaScript this is: of `redFives` it is `red-fives`.
+function wordOf(name) {
+  return name.replace(/[A-Z]/g, (letter) => `-${letter.toLowerCase()}`);
+}
 
 export function house(changes = {}) {
-  const strange = Object.keys(changes).find((name) => !RULES.includes(name));
+  const strange = Object.keys(changes).find((name) => !/^[A-Za-z]+$/.test(name) || numberOf(`1+${wordOf(name)}`) === 0);
   if (strange !== undefined) throw new RangeError(`no rule has the name ${strange}`);
-  return RULES.reduce((bits, name, place) => {
-    const bit = 1 << place;
-    return (changes[name] ?? Boolean(FIRST & bit)) ? bits | bit : bits;
-  }, HOUSE);
+  const said = Object.entries(changes).filter(([, isOn]) => isOn !== undefined);
+  return numberOf(`1${said.map(([name, isOn]) => `${isOn ? "+" : "-"}${wordOf(name)}`).join("")}`);
 }
 
 // The rules of a text such as `2` or `1+red-fives-ura`, as the option --rules has them; undefined where it has none.
 export function rulesOf(text) {
-  const { read: taken, written } = encoder.encodeInto(text, lineRoom);
-  const rules = taken === text.length && calls.riichi_rules(AT[0], BigInt(written), BigInt(TAKEN));
-  if (!rules) return undefined;
-  const profile = [house(), house({ redFives: true, raise: true })].indexOf(rules);
+  const rules = numberOf(text);
+  if (rules === 0) return undefined;
+  const profile = ["1", "2"].findIndex((word) => numberOf(word) === rules);
   return profile < 0 ? rules : profile + 1;
 }
 
+// (a blank line has no answer under any rules, and under no rules it is refused)
 function tested(rules) {
-  if (rules === 1 || rules === 2 || (Number.isInteger(rules) && rules >= HOUSE && rules < HOUSE + (1 << RULES.length))) return;
+  if (Number.isInteger(rules) && rules >= 0 && rules < 2 ** 32 && calls.riichi_answer(rules, AT[0], 0n, AT[1], AT[2]) === 0n) return;
   throw new RangeError(`rules is 1, 2 or house({..}), and not ${rules}`);
 }
 

@@ -8,8 +8,6 @@ from typing import Union
 
 from .library import CALLS
 
-_HOUSE = 0x10000
-
 
 @dataclass(frozen=True)
 class Rules:
@@ -32,7 +30,9 @@ class Rules:
 
     def number(self) -> int:
         """The number that the library takes."""
-        return _HOUSE + sum(bool(getattr(self, rule.name)) << place for place, rule in enumerate(fields(self)))
+        signs = ("+" if getattr(self, rule.name) else "-" for rule in fields(self))
+        words = (rule.name.replace("raised", "raise").replace("_", "-") for rule in fields(self))
+        return _read("1" + "".join(f"{sign}{word}" for sign, word in zip(signs, words)))
 
 
 Profile = Union[int, str, Rules]
