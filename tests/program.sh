@@ -86,13 +86,10 @@ row 2 '' "invalid value '0' for '--workers <N>'" score --workers 0 file
 row 2 '' "invalid value '17' for '--workers <N>'" score --workers 17 file
 row 2 '' "invalid value 'many' for '--workers <N>'" score --workers many file
 row 0 'riichi_desk 0.1.0' '' --version
-for command in '' win waits shape line explain replay score; do
+for command in '' win waits shape line explain replay score help-yaku help-codes help-rules; do
   told "the help of riichi_desk $command says the program's own name" 'Usage: riichi_desk' "$("$program" $command --help | grep -oE '^Usage: [a-z_]+')"
   told "the help of riichi_desk $command has the exit statuses" 5 "$("$program" $command --help | sed -n '/^Exit status:$/,$p' | grep -cE '^  [0-4]  ')"
 done
-told 'the help of riichi_desk help-yaku has the exit statuses' 4 "$("$program" help-yaku --help | sed -n '/^Exit status:$/,$p' | grep -cE '^  [0-4]  ')"
-told 'the help of riichi_desk help-codes has the exit statuses' 4 "$("$program" help-codes --help | sed -n '/^Exit status:$/,$p' | grep -cE '^  [0-4]  ')"
-told 'the help of riichi_desk help-rules has the exit statuses' 4 "$("$program" help-rules --help | sed -n '/^Exit status:$/,$p' | grep -cE '^  [0-4]  ')"
 told 'the help names the commands' 10 "$("$program" --help | grep -cE '^  (win|waits|shape|line|explain|replay|score|help-codes|help-rules|help-yaku) ')"
 
 for words in --help help-codes; do

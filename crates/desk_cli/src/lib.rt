@@ -16,6 +16,7 @@ mod rules;
 mod words;
 
 pub use command::CommandName;
+pub use help::EXIT_STATUSES;
 pub use request::{Form, Lines, Manner, Request, request_of};
 pub use rules::nearest_rule;
 pub use words::commands;

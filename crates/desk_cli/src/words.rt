@@ -272,7 +272,7 @@ fn tables_arg<'a>(alloc: Global) -> Arg<'a> {
     let files = words_of(
         alloc,
         "FILE",
-        "Hands, one a line: each file is a table, and 64 are the most",
+        "Hands, one a line: each file is a table, 64 files and 1,000,000 hands in each are the most",
     );
     files.required(true).num_args(1..)
 }

@@ -4,12 +4,13 @@ ghost use Rattle.std.specs.Prelude.{◌≡◌, false, IfOk};
 use crate::answers::printed;
 use crate::failure::Failure;
 use crate::noted::Notes;
+use desk_cli::EXIT_STATUSES;
 use riichi_hand::{LineCode, LineFault, TextName, line_code_text, notation_code_text};
 use riichi_refusals::fault_words;
 use riichi_tiles::{NotationCode, NotationFault};
 use std::io::{self, Print};
 
-/// The codes that are of no line, and the exit statuses.
+/// The codes that are of no line. The exit statuses stand below them.
 const OTHERS: &str = "\
 A command of a script is refused
   P1   a line is one of the commands, has at most 8192 bytes, and its record is no comment
@@ -25,12 +26,6 @@ The program gives up
   F3   there is no memory
   B1   there are too many files, or too many hands in one
   B4   there is no thread
-Exit status
-  0    answered
-  1    answered, and at least one line was refused
-  2    the words are wrong, or there is too much
-  3    a file can't be opened, or input or output failed
-  4    there was no memory, or no thread
 ";
 
 /// Prints every code with its words. No line is refused.
@@ -48,7 +43,7 @@ fn print_all<R: Print>(rt: &R) -> io::Result<()> {
         println!(rt; "  {code:<3}  {words}")?;
     }
     print_notation(rt)?;
-    print!(rt; "{OTHERS}")
+    println!(rt; "{OTHERS}Exit status\n{EXIT_STATUSES}")
 }
 
 fn print_notation<R: Print>(rt: &R) -> io::Result<()> {
