@@ -1,32 +1,30 @@
 //! What stands below the help of the program, and of each command: an example, and the exit statuses.
 
-macro_rules! statuses {
-    () => {
-        "  0    answered
+/// A text with the exit statuses below it.
+macro_rules! with_statuses {
+    ($text:literal) => {
+        concat!(
+            $text,
+            "  0    answered
   1    answered, and at least one line was refused
   2    the words are wrong, or there is too much
   3    a file can't be opened, or input or output failed
   4    there was no memory, or no thread"
+        )
     };
 }
 
 /// The exit statuses of the program, a line each.
-pub const EXIT_STATUSES: &str = statuses!();
+pub const EXIT_STATUSES: &str = with_statuses!("");
 
-/// A text, and the exit statuses below it.
-macro_rules! with_statuses {
-    ($text:literal) => {
-        concat!($text, "Exit status:\n", statuses!())
-    };
-}
-
-pub(crate) const PROGRAM_HELP: &str = with_statuses!("");
+pub(crate) const PROGRAM_HELP: &str = with_statuses!("Exit status:\n");
 
 pub(crate) const WIN_HELP: &str = with_statuses!(
     "\
 Example:
   riichi_desk win 234m567m345p67s99s on=5s by=ron seat=S round=E
 
+Exit status:
 "
 );
 
@@ -35,6 +33,7 @@ pub(crate) const SHAPE_HELP: &str = with_statuses!(
 Example:
   riichi_desk shape 123456789m1134p seen=2222p
 
+Exit status:
 "
 );
 
@@ -44,6 +43,7 @@ Example:
   riichi_desk waits 1112345678999m
   riichi_desk waits 2223456777m open=pon:111z
 
+Exit status:
 "
 );
 
@@ -54,6 +54,7 @@ Example:
   riichi_desk line --json --file club-night.lines
   riichi_desk line --workers 4 --file many.lines
 
+Exit status:
 "
 );
 
@@ -64,6 +65,7 @@ Example:
   riichi_desk explain --all win 1122334m556677s on=4m by=ron seat=S round=E
   riichi_desk explain --json --file club-night.lines
 
+Exit status:
 "
 );
 
@@ -72,6 +74,7 @@ pub(crate) const CODES_HELP: &str = with_statuses!(
 Example:
   riichi_desk help-codes
 
+Exit status:
 "
 );
 
@@ -80,6 +83,7 @@ pub(crate) const YAKU_HELP: &str = with_statuses!(
 Example:
   riichi_desk help-yaku
 
+Exit status:
 "
 );
 
@@ -88,6 +92,7 @@ pub(crate) const RULES_HELP: &str = with_statuses!(
 Example:
   riichi_desk help-rules
 
+Exit status:
 "
 );
 
@@ -96,6 +101,7 @@ pub(crate) const REPLAY_HELP: &str = with_statuses!(
 Example:
   riichi_desk replay evening.lines
 
+Exit status:
 "
 );
 
@@ -105,5 +111,6 @@ Example:
   riichi_desk score --workers 2 table-one.lines table-two.lines
   riichi_desk score --number table-one.lines table-two.lines
 
+Exit status:
 "
 );
