@@ -1,8 +1,9 @@
 -- Why an outcome is refused, and what comes after one that is not.
 use Rattle.std.specs.Prelude.{ℕ, ◌+◌, ◌*◌, Bool, false, not, ◌&&◌, ◌||◌, nat_lt, nat_le, ℤ, pos, negsuc, ◌+ℤ◌, int_lt, int_le, [], ◌∷◌, Option, Some, None, is_some, Result, Ok, Err}
 use Rattle.std.specs.Ordering.{int_eq}
-use Rattle.riichi_table.specs.Players.{of_player, by_players, with_player, of_some, sum_over_players}
+use Rattle.riichi_table.specs.Players.{of_player, by_players, with_player, of_some}
 use Rattle.riichi_table.specs.RulesFaults.{cost_points}
+use Rattle.riichi_table.specs.States.{all_points}
 use Rattle.riichi_table.specs.declared.player.Player.{Player}
 use Rattle.riichi_table.specs.declared.player.ByPlayer.{ByPlayer}
 use Rattle.riichi_table.specs.declared.rules.TableRules.{TableRules}
@@ -36,12 +37,8 @@ abbrev pub riichi_not_ready : Outcome → Bool
 riichi_not_ready (Draw ready nagashi riichi) = of_some (of_player (unready ready riichi))
 riichi_not_ready other = false
 
--- the points of the four players, and 1000 for each stick on the table
-unfoldable pub total : GameState → ℤ
-total state = sum_over_players (of_player state.points) +ℤ pos (1000 * state.sticks)
-
 abbrev pub has_wrong_total : TableRules → Outcome → Bool
-has_wrong_total rules (Stands written) = not (int_eq (total written) (pos (4 * rules.start)))
+has_wrong_total rules (Stands written) = not (int_eq (all_points written) (pos (4 * rules.start)))
 has_wrong_total rules other = false
 
 -- the rules have a round behind the last only where there may be one more, and no other

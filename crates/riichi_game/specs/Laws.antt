@@ -1,7 +1,7 @@
 -- Laws of a game.
 use Rattle.std.specs.Prelude.{◌≡◌, ℕ, ◌≤◌, ◌*◌, Bool, true, false, pos, ◌+ℤ◌, List, [], ◌∷◌, ◌++◌, Ok, Err}
 use Rattle.riichi_table.specs.Players.{of_player}
-use Rattle.riichi_table.specs.States.{first_state}
+use Rattle.riichi_table.specs.States.{first_state, all_points}
 use Rattle.riichi_table.specs.declared.player.Player.{Player}
 use Rattle.riichi_table.specs.declared.rules.TableRules.{TableRules}
 use Rattle.riichi_table.specs.declared.state.GameState.{GameState}
@@ -9,14 +9,14 @@ use Rattle.riichi_table.specs.declared.fault.OutcomeFault.{OutcomeFault}
 use Rattle.riichi_table.specs.declared.outcome.Outcome.{Outcome}
 use Rattle.riichi_table.specs.declared.outcome.Outcome.TheVariants.{Penalty, Stands}
 use Rattle.riichi_settle.specs.Settled.{change_by, moves_of}
-use Rattle.riichi_game.specs.Faults.{total, are_kept, next_of}
+use Rattle.riichi_game.specs.Faults.{are_kept, next_of}
 use Rattle.riichi_game.specs.Following.{state_after}
 use Rattle.riichi_game.specs.Games.{after_one, after_all}
 use Rattle.riichi_game.specs.declared.game.Progress.{Progress}
 
 -- the points of the four and 1000 for each stick are four times the start
 abbrev pub HasAll : TableRules → GameState → Type 0
-HasAll rules state = total state ≡ pos (4 * rules.start)
+HasAll rules state = all_points state ≡ pos (4 * rules.start)
 
 -- ---- nothing is lost or made
 

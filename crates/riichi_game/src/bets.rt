@@ -1,5 +1,5 @@
 //! Why an outcome is refused by what the table shows.
-ghost use Rattle.std.specs.Prelude.{◌≡◌, ◌+ℤ◌, ◌≤ℤ◌, pos, negsuc};
+ghost use Rattle.std.specs.Prelude.{◌≡◌};
 ghost use Rattle.riichi_game.specs.Faults as spec;
 
 use crate::ends::{is_behind_last, is_beyond};
@@ -81,40 +81,9 @@ fn has_wrong_total(rules: &TableRules, outcome: &Outcome) -> bool
     ensures { result ≡ spec.has_wrong_total rules.now outcome.now }
 {
     match outcome {
-        Outcome::Stands { state } => total(state) != 4 * i64::from(rules.start),
+        Outcome::Stands { state } => state.all_points() != 4 * i64::from(rules.start),
         _ => false,
     }
-}
-
-/// The points of the four players, and 1000 for each stick on the table.
-#[tactic(auto, unfolding(crate::specs::Faults::total))]
-fn total(state: &GameState) -> i64
-    ensures { result ≡ spec.total state.now }
-{
-    let sticks = 1000 * i64::from(state.sticks);
-    sum(&state.points) + sticks
-}
-
-fn sum(points: &ByPlayer<i32>) -> i64
-    ensures value { result
-        ≡ points.now.first +ℤ points.now.second +ℤ points.now.third +ℤ points.now.fourth }
-    ensures least { negsuc 99999999999 ≤ℤ result }
-    ensures most { result ≤ℤ pos 99999999999 }
-{
-    plus(
-        plus(plus(i64::from(points.first), points.second), points.third),
-        points.fourth,
-    )
-}
-
-fn plus(sum: i64, points: i32) -> i64
-    requires least { negsuc 9999999999 ≤ℤ sum }
-    requires most { sum ≤ℤ pos 9999999999 }
-    ensures value { result ≡ sum +ℤ points }
-    ensures least { (sum +ℤ negsuc 2147483647) ≤ℤ result }
-    ensures most { result ≤ℤ (sum +ℤ pos 2147483647) }
-{
-    sum + i64::from(points)
 }
 
 fn has_wrong_round(rules: &TableRules, outcome: &Outcome) -> bool

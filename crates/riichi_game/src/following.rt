@@ -74,19 +74,8 @@ pub(crate) fn points_after(
     ensures { result ≡ spec.points_after state.now rules.now outcome.now }
 {
     match outcome {
-        Outcome::Stands { state: written } => widened(&written.points),
+        Outcome::Stands { state: written } => written.points.widened(),
         _ => points_moved(&state.points, &moves_of(state, rules, outcome)),
-    }
-}
-
-fn widened(points: &ByPlayer<i32>) -> ByPlayer<i64>
-    ensures { result ≡ points.now }
-{
-    ByPlayer {
-        first: i64::from(points.first),
-        second: i64::from(points.second),
-        third: i64::from(points.third),
-        fourth: i64::from(points.fourth),
     }
 }
 

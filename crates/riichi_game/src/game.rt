@@ -2,13 +2,12 @@
 ghost use Rattle.std.specs.Prelude.{◌≡◌, ◌≤◌, true};
 ghost use Rattle.riichi_game.specs.Following.{counters_after as counters_next, sticks_after as sticks_next, points_after as points_next};
 ghost use Rattle.riichi_game.specs.Faults as spec;
-ghost use Rattle.riichi_table.specs.RulesFaults.{cost_points as cost_of};
 ghost use Rattle.riichi_game.specs.Games as games;
 
 use crate::ends::over_after;
 use crate::following::{counters_after, dealer_after, points_after, round_after, sticks_after};
 use crate::refusals::fault;
-use riichi_table::{ByPlayer, ChomboCost, GameState, Outcome, OutcomeFault, Player, TableRules};
+use riichi_table::{ByPlayer, GameState, Outcome, OutcomeFault, Player, TableRules};
 
 /// How far a game has come.
 #[derive(Clone, Copy, Debug, PartialEq, Eq)]
@@ -109,17 +108,8 @@ pub(crate) fn penalties_after(
 {
     match outcome {
         Outcome::Penalty { player, points } => added(penalties, *player, *points),
-        Outcome::Chombo { player } => added(penalties, *player, cost_points(rules.chombo)),
+        Outcome::Chombo { player } => added(penalties, *player, rules.chombo.penalty()),
         _ => widened(penalties),
-    }
-}
-
-fn cost_points(cost: ChomboCost) -> u32
-    ensures { result ≡ cost_of cost }
-{
-    match cost {
-        ChomboCost::Points(points) => points,
-        ChomboCost::Mangan => 0,
     }
 }
 

@@ -1,12 +1,12 @@
 //! Why an outcome is refused whatever the table shows, but for its rules.
 ghost use Rattle.std.specs.Prelude.{◌≡◌};
 ghost use Rattle.riichi_table.specs.Players.{by_players};
-ghost use Rattle.riichi_settle.specs.Winners.{winners as winners_in};
 ghost use Rattle.riichi_game.specs.Line as spec;
 
 use crate::values::is_limits;
 use crate::won::wins_in;
 use riichi_hand::Rules;
+use riichi_settle::winners;
 use riichi_table::{ByPlayer, Liable, Outcome, OutcomeFault, Player, TableRules, Win, Worth};
 
 /// The first fault of an outcome in itself and under the rules.
@@ -45,17 +45,6 @@ fn nobody_wins(outcome: &Outcome) -> bool
     match outcome {
         Outcome::Ron { wins, .. } => !winners(wins).any(),
         _ => false,
-    }
-}
-
-fn winners(wins: &ByPlayer<Option<Win>>) -> ByPlayer<bool>
-    ensures { result ≡ winners_in wins.now }
-{
-    ByPlayer {
-        first: wins.first.is_some(),
-        second: wins.second.is_some(),
-        third: wins.third.is_some(),
-        fourth: wins.fourth.is_some(),
     }
 }
 

@@ -7,7 +7,7 @@ use Rattle.riichi_hand.specs.declared.win.By.{By}
 use Rattle.riichi_score.specs.Base.{base_of}
 use Rattle.riichi_game.specs.Values.{occurs}
 use Rattle.riichi_need.specs.Rows.{all_fu}
-use Rattle.riichi_need.specs.Needs.{IsLeast, lesser, base_if}
+use Rattle.riichi_need.specs.Needs.{IsLeast, lesser, base_passing}
 
 -- the least of two sets together
 pub of_both : (P Q : ℕ → Type 0) (passes : ℕ → Bool) (one other : Option ℕ) → IsLeast P passes one → IsLeast Q passes other
@@ -62,7 +62,7 @@ add_last rules by han fus base (inr h) = (fus, omega arith, h.0, h.1)
 
 -- with one fu more
 pub with_next : (rules : Rules) (by : By) (passes : ℕ → Bool) (han fus : ℕ) (least : Option ℕ) → IsLeast (IsRowBelow rules by han fus) passes least
-    → IsLeast (IsRowBelow rules by han (fus + 1)) passes (lesser least (base_if rules by passes han (slice_index all_fu fus)))
+    → IsLeast (IsRowBelow rules by han (fus + 1)) passes (lesser least (base_passing rules by passes han (slice_index all_fu fus)))
 with_next rules by passes han fus least h =
     let fu = slice_index all_fu fus in
     let base = base_of rules han fu in

@@ -13,7 +13,7 @@ use Rattle.riichi_table.specs.declared.rules.Ties.{Ties}
 use Rattle.riichi_table.specs.declared.rules.Ties.TheVariants.{Share, Seat}
 use Rattle.riichi_places.specs.Places.{seat_number, is_ahead, ahead_of}
 use Rattle.riichi_settle.specs.Laws.{share_of}
-use Rattle.riichi_need.specs.Winning.{pays, gains, after, points_after}
+use Rattle.riichi_need.specs.Winning.{pays, gains, points_then, all_points_then}
 use Rattle.riichi_need.specs.Reaching.{is_not_below, not_below_of, reaches}
 use Rattle.riichi_need.specs.Laws.{GreaterReachesToo}
 use Rattle.riichi_need.specs.declared.question.Aim.TheVariants.{Strictly, WithTie}
@@ -74,8 +74,8 @@ choose_false : (is : Bool) (a b c d : ℤ) → is ≡ false → d ≤ℤ b → (
 choose_false true a b c d e h = absurd (cc)
 choose_false false a b c d e h = h
 
-moves : (question : Question) (way : Way) (base greater : ℕ) → base ≤ greater → Moves question.player (after question way base) (after question way greater)
-unfolding after
+moves : (question : Question) (way : Way) (base greater : ℕ) → base ≤ greater → Moves question.player (points_then question way base) (points_then question way greater)
+unfolding points_then
 moves question way base greater h = (
   λ player e. choose_true (is_same player question.player) _ _ _ _ e (added (of_player question.state.points player) _ _ (gains_rise question way base greater h)),
   λ player e. choose_false (is_same player question.player) _ _ _ _ e (taken (of_player question.state.points player) _ _ _ (pays_rise question way base greater player h)),
@@ -176,13 +176,13 @@ pub greater_reaches_too : GreaterReachesToo
 unfolding reaches
 greater_reaches_too question Strictly way base greater h e =
     let rise = moves question way base greater h in
-    let before = after question way base in let later = after question way greater in
-    let both : Moves question.player (of_player (points_after question way base)) (of_player (points_after question way greater)) =
+    let before = points_then question way base in let later = points_then question way greater in
+    let both : Moves question.player (of_player (all_points_then question way base)) (of_player (all_points_then question way greater)) =
     (λ player. winner_rises before later question.player player rise, λ player. other_falls before later question.player player rise) in
-    still_below _ _ question.place (fewer_not_below (points_after question way base) (points_after question way greater) question.player both) e
+    still_below _ _ question.place (fewer_not_below (all_points_then question way base) (all_points_then question way greater) question.player both) e
 greater_reaches_too question WithTie way base greater h e =
     let rise = moves question way base greater h in
-    let before = after question way base in let later = after question way greater in
-    let both : Moves question.player (of_player (points_after question way base)) (of_player (points_after question way greater)) =
+    let before = points_then question way base in let later = points_then question way greater in
+    let both : Moves question.player (of_player (all_points_then question way base)) (of_player (all_points_then question way greater)) =
     (λ player. winner_rises before later question.player player rise, λ player. other_falls before later question.player player rise) in
-    still_below _ _ question.place (fewer_ahead question.rules.ties (points_after question way base) (points_after question way greater) question.player both) e
+    still_below _ _ question.place (fewer_ahead question.rules.ties (all_points_then question way base) (all_points_then question way greater) question.player both) e

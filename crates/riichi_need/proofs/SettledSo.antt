@@ -8,7 +8,7 @@ use Rattle.riichi_table.specs.declared.player.Player.{Player}
 use Rattle.riichi_table.specs.declared.player.Player.TheVariants.{First, Second, Third, Fourth}
 use Rattle.riichi_settle.specs.Laws.{SettlesLoneRon, SettlesLoneTsumo, nobody}
 use Rattle.riichi_settle.specs.Laws.{share_of}
-use Rattle.riichi_need.specs.Winning.{payment_of, other_bets, after}
+use Rattle.riichi_need.specs.Winning.{payment_for, other_bets, points_then}
 use Rattle.riichi_need.specs.Laws.{RonIsSettledSo, TsumoIsSettledSo}
 use Rattle.riichi_need.specs.declared.question.Question.{Question}
 use Rattle.riichi_need.specs.declared.question.Way.TheVariants.{Ron, Tsumo}
@@ -65,10 +65,10 @@ tsumo_case true x gain bets points bet h k = omega (arith, ints)
 tsumo_case false x gain bets points bet h k = omega (arith, ints)
 
 pub ron_is_settled_so : SettlesLoneRon → RonIsSettledSo
-unfolding after
+unfolding points_then
 ron_is_settled_so law question from player worth none other =
     let x = of_player question.state.points player in
-    let payment = payment_of question (Ron from) (base_of worth) in
+    let payment = payment_for question (Ron from) (base_of worth) in
     let gain = gain_of payment question.state.sticks in
     ron_case (is_same player question.player) (is_same player from) x gain _ (paid payment) _
     (ap (λ bets. count_of (of_player bets)) (no_bets question none)) (no_bet question player none)
@@ -76,10 +76,10 @@ ron_is_settled_so law question from player worth none other =
     ∙ ap (λ change. x +ℤ change) (sym (law question.state question.rules from question.player player worth other))
 
 pub tsumo_is_settled_so : SettlesLoneTsumo → TsumoIsSettledSo
-unfolding after
+unfolding points_then
 tsumo_is_settled_so law question player worth none =
     let x = of_player question.state.points player in
-    let payment = payment_of question Tsumo (base_of worth) in
+    let payment = payment_for question Tsumo (base_of worth) in
     let gain = gain_of payment question.state.sticks in
     let share = share_of payment (is_same player question.state.dealer) in
     tsumo_case (is_same player question.player) x gain _ share _

@@ -6,7 +6,7 @@ use Rattle.riichi_table.specs.declared.player.Player.{Player}
 use Rattle.riichi_table.specs.declared.worth.Worth.{Worth}
 use Rattle.riichi_table.specs.declared.outcome.Outcome.{Outcome}
 use Rattle.riichi_settle.specs.Laws.{change_of, lone_ron, lone_tsumo, nobody}
-use Rattle.riichi_need.specs.Winning.{after}
+use Rattle.riichi_need.specs.Winning.{points_then}
 use Rattle.riichi_need.specs.Reaching.{reaches}
 use Rattle.riichi_need.specs.declared.question.Aim.{Aim}
 use Rattle.riichi_need.specs.declared.question.Question.{Question}
@@ -26,11 +26,11 @@ settled_change question outcome player = change_of question.state question.rules
 abbrev pub RonIsSettledSo : Type 0
 RonIsSettledSo = (question : Question) (from player : Player) (worth : Worth) →
     question.bets ≡ nobody → is_same from question.player ≡ false →
-    after question (Ron from) (base_of worth) player
+    points_then question (Ron from) (base_of worth) player
     ≡ of_player question.state.points player +ℤ settled_change question (lone_ron from question.player worth) player
 
 -- and those of a win by self-draw too
 abbrev pub TsumoIsSettledSo : Type 0
 TsumoIsSettledSo = (question : Question) (player : Player) (worth : Worth) → question.bets ≡ nobody →
-    after question Tsumo (base_of worth) player
+    points_then question Tsumo (base_of worth) player
     ≡ of_player question.state.points player +ℤ settled_change question (lone_tsumo question.player worth) player

@@ -8,7 +8,7 @@ use Rattle.riichi_hand.specs.declared.win.By.{By}
 use Rattle.riichi_score.specs.Base.{base_of}
 use Rattle.riichi_game.specs.Values.{occurs}
 use Rattle.riichi_need.specs.Rows.{IsRow, limit_of, all_fu}
-use Rattle.riichi_need.specs.Winning.{by_of, payment_of}
+use Rattle.riichi_need.specs.Winning.{way_by, payment_for}
 use Rattle.riichi_need.specs.Reaching.{reaches}
 use Rattle.riichi_need.specs.declared.need.Need.{Need}
 use Rattle.riichi_need.specs.declared.need.Row.{Row}
@@ -32,11 +32,11 @@ base_in (Some row) = Some row.base
 -- it is paid as the base points say
 abbrev pub IsPaid : Question → Way → Option Row → Type 0
 IsPaid question way None = Unit {0}
-IsPaid question way (Some row) = row.payment ≡ payment_of question way row.base
+IsPaid question way (Some row) = row.payment ≡ payment_for question way row.base
 
 -- the least base points of any row that bring the player there
 abbrev pub IsLeastBase : Question → Way → Aim → Option ℕ → Type 0
-IsLeastBase question way aim base = IsLeast (IsRow question.rules.hand (by_of way)) (reaches question aim way) base
+IsLeastBase question way aim base = IsLeast (IsRow question.rules.hand (way_by way)) (reaches question aim way) base
 
 -- every greater win brings the player there too
 abbrev pub GreaterReach : Question → Way → Aim → Option Row → Type 0
@@ -73,8 +73,8 @@ or_0 None = 0
 or_0 (Some base) = base
 
 -- the base points of a hand of so many han and fu, if there is such a hand and they pass
-abbrev pub base_if : Rules → By → (ℕ → Bool) → ℕ → ℕ → Option ℕ
-base_if rules by passes han fu =
+abbrev pub base_passing : Rules → By → (ℕ → Bool) → ℕ → ℕ → Option ℕ
+base_passing rules by passes han fu =
     if occurs rules by han fu && passes (base_of rules han fu) then Some (base_of rules han fu) else None
 
 -- some hand of so many han has these base points.
@@ -85,7 +85,7 @@ IsRowOf rules by han base =
 -- the least of the hands of so many han
 abbrev pub IsLeastOfHan : Question → Way → Aim → ℕ → Option ℕ → Type 0
 IsLeastOfHan question way aim han base =
-    IsLeast (IsRowOf question.rules.hand (by_of way) han) (reaches question aim way) base
+    IsLeast (IsRowOf question.rules.hand (way_by way) han) (reaches question aim way) base
 
 -- the least of the limit hands
 abbrev pub IsLeastLimit : Question → Way → Aim → Option ℕ → Type 0
@@ -93,4 +93,4 @@ IsLeastLimit question way aim base = IsLeast (λ limit. IsSome (limit_of limit))
 
 -- the base points of a hand of so many han and fu that bring the player there
 abbrev pub base_reached : Question → Way → Aim → ℕ → ℕ → Option ℕ
-base_reached question way aim han fu = base_if question.rules.hand (by_of way) (reaches question aim way) han fu
+base_reached question way aim han fu = base_passing question.rules.hand (way_by way) (reaches question aim way) han fu

@@ -4,7 +4,7 @@ use Rattle.riichi_table.specs.Players.{of_player, is_same, count_of}
 use Rattle.riichi_table.specs.declared.player.Player.{Player}
 use Rattle.riichi_table.specs.declared.player.ByPlayer.{ByPlayer}
 use Rattle.riichi_places.specs.Places.{ahead_of}
-use Rattle.riichi_need.specs.Winning.{points_after}
+use Rattle.riichi_need.specs.Winning.{all_points_then}
 use Rattle.riichi_need.specs.declared.question.Aim.{Aim}
 use Rattle.riichi_need.specs.declared.question.Aim.TheVariants.{Strictly, WithTie}
 use Rattle.riichi_need.specs.declared.question.Question.{Question}
@@ -25,4 +25,4 @@ has_place question WithTie points = nat_lt (ahead_of question.rules.ties points 
 
 -- a win of so many base points brings the player there
 unfoldable pub reaches : Question → Aim → Way → ℕ → Bool
-reaches question aim way base = has_place question aim (points_after question way base)
+reaches question aim way base = has_place question aim (all_points_then question way base)

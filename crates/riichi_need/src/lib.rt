@@ -18,4 +18,4 @@ pub use need::{Need, Needs, Row, needs_of};
 pub use question::{Aim, Question, Way};
 pub use reaching::reaches;
 pub use rows::{ALL_FU, limit_of, pays_so};
-pub use winning::points_after;
+pub use winning::all_points_then;

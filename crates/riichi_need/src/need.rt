@@ -1,14 +1,13 @@
 //! The least row of the table of payments that brings a player to a place.
 ghost use Rattle.std.specs.Prelude.{◌≡◌, ◌≤◌};
-ghost use Rattle.riichi_need.specs.Winning.{by_of};
 ghost use Rattle.riichi_need.specs.Needs as spec;
 
 use crate::question::{Aim, Question, Way};
 use crate::reaching::reaches;
 use crate::rows::ALL_FU;
-use crate::winning::payment_of;
+use crate::winning::payment_for;
 use riichi_game::occurs;
-use riichi_hand::{By, Rules};
+use riichi_hand::Rules;
 use riichi_score::{Payment, base_points};
 use riichi_table::{ByPlayer, Player};
 
@@ -80,7 +79,7 @@ fn least_row(question: &Question, way: Way, aim: Aim) -> Option<Row>
         None => None,
         Some(base) => Some(Row {
             base,
-            payment: payment_of(question, way, base),
+            payment: payment_for(question, way, base),
         }),
     }
 }
@@ -104,31 +103,22 @@ fn least_of(question: &Question, way: Way, aim: Aim, han: u8) -> Option<u32>
 {
     let mut least = None;
     for fu in &ALL_FU {
-        least = lesser(least, base_if(question, way, aim, han, *fu));
+        least = lesser(least, base_passing(question, way, aim, han, *fu));
     }
     least
 }
 
 /// The base points of a hand of so many han and fu, if there is such a hand and it brings the player there.
-fn base_if(question: &Question, way: Way, aim: Aim, han: u8, fu: u8) -> Option<u32>
+fn base_passing(question: &Question, way: Way, aim: Aim, han: u8, fu: u8) -> Option<u32>
     ensures value { result ≡ spec.base_reached question.now way aim han fu }
     ensures most { spec.or_0 result ≤ 8000 }
 {
     let rules = question.rules.hand;
     let base = base_points(rules, han, fu);
-    if occurs(rules, by_of(way), han, fu) && reaches(question, aim, way, base) {
+    if occurs(rules, way.by(), han, fu) && reaches(question, aim, way, base) {
         Some(base)
     } else {
         None
-    }
-}
-
-fn by_of(way: Way) -> By
-    ensures { result ≡ by_of way }
-{
-    match way {
-        Way::Ron { .. } => By::Ron,
-        Way::Tsumo => By::Tsumo,
     }
 }
 

@@ -1,4 +1,8 @@
 //! What is asked.
+ghost use Rattle.std.specs.Prelude.{◌≡◌};
+ghost use Rattle.riichi_need.specs.Winning as spec;
+
+use riichi_hand::By;
 use riichi_table::{ByPlayer, GameState, Player, TableRules};
 
 /// Which place a player is to reach in the next deal.
@@ -19,6 +23,18 @@ pub struct Question {
 pub enum Way {
     Ron { from: Player },
     Tsumo,
+}
+
+impl Way {
+    /// As a record of a hand says it.
+    pub fn by(self) -> By
+        ensures { result ≡ spec.way_by self }
+    {
+        match self {
+            Way::Ron { .. } => By::Ron,
+            Way::Tsumo => By::Tsumo,
+        }
+    }
 }
 
 /// What counts as the place.

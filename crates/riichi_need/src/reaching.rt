@@ -3,7 +3,7 @@ ghost use Rattle.std.specs.Prelude.{◌≡◌, ◌≤◌};
 ghost use Rattle.riichi_need.specs.Reaching as spec;
 
 use crate::question::{Aim, Question, Way};
-use crate::winning::points_after;
+use crate::winning::all_points_then;
 use riichi_places::place;
 use riichi_table::{ByPlayer, Player};
 
@@ -13,7 +13,7 @@ pub fn reaches(question: &Question, aim: Aim, way: Way, base: u32) -> bool
     requires { base ≤ 8000 }
     ensures { result ≡ spec.reaches question.now aim way base }
 {
-    let points = points_after(question, way, base);
+    let points = all_points_then(question, way, base);
     match aim {
         Aim::Strictly => not_below(&points, question.player) < question.place,
         Aim::WithTie => place(&points, question.rules.ties, question.player) - 1 < question.place,

@@ -100,7 +100,7 @@ fn settled(rules: &TableRules, state: &GameState, player: Player) -> i64
     ensures least { negsuc 9999999999 ≤ℤ result }
     ensures most { result ≤ℤ pos 10000000000 }
 {
-    let sticks = if place(&widened(&state.points), Ties::Seat, player) == 1 {
+    let sticks = if place(&state.points.widened(), Ties::Seat, player) == 1 {
         for_sticks(rules.left, state.sticks)
     } else {
         0
@@ -115,17 +115,5 @@ fn for_sticks(left: LeftSticks, sticks: u8) -> u32
     match left {
         LeftSticks::First => 1000 * u32::from(sticks),
         LeftSticks::Lost => 0,
-    }
-}
-
-/// The points of a state, as the places are asked of.
-pub fn widened(points: &ByPlayer<i32>) -> ByPlayer<i64>
-    ensures { result ≡ points.now }
-{
-    ByPlayer {
-        first: i64::from(points.first),
-        second: i64::from(points.second),
-        third: i64::from(points.third),
-        fourth: i64::from(points.fourth),
     }
 }

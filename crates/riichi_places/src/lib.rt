@@ -11,5 +11,5 @@ mod finals;
 pub mod laws;
 mod places;
 
-pub use finals::{FinalPoints, final_points, points_at_end, widened};
+pub use finals::{FinalPoints, final_points, points_at_end};
 pub use places::{is_ahead, place};

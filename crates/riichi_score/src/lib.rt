@@ -33,6 +33,6 @@ pub use points::{block_fu, fu, open_fu, ron_fu, self_draw_fu};
 pub use read::{BestReading, best_reading};
 pub use riichi_yaku::{Yaku, YakuSet, yaku_of as yaku};
 pub use score::Score;
-pub use settlement::{payment, up};
+pub use settlement::{paid_for, payment, up};
 pub use text::{MOST_WIN, push_win, win_text};
 pub use worth::score_of;

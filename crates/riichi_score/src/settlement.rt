@@ -11,10 +11,18 @@ pub fn payment(base: u32, win: &WinRecord) -> Payment
     ensures value { result ≡ spec.payment_of base win.now }
     ensures most { spec.paid result ≤ 5000000 }
 {
-    let dealer = win.seat().is_dealer();
-    match win.by() {
-        By::Ron => by_ron(base, dealer, win.counters()),
-        By::Tsumo => by_tsumo(base, dealer, win.counters()),
+    paid_for(base, win.by(), win.seat().is_dealer(), win.counters())
+}
+
+/// The same, by how it was won, whether the winner is the dealer, and how many counters lie.
+pub fn paid_for(base: u32, by: By, dealer: bool, counters: u8) -> Payment
+    requires { base ≤ 800000 }
+    ensures value { result ≡ spec.paid_for base by dealer counters }
+    ensures most { spec.paid result ≤ 5000000 }
+{
+    match by {
+        By::Ron => by_ron(base, dealer, counters),
+        By::Tsumo => by_tsumo(base, dealer, counters),
     }
 }
 

@@ -20,4 +20,4 @@ mod winners;
 pub use making::moves_of;
 pub use moved::{Move, Moves, Reason, Taking};
 pub use settling::{Changes, changes_by, points_after, settle};
-pub use winners::{as_played, nearest};
+pub use winners::{as_played, nearest, winners};

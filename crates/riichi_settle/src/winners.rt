@@ -72,7 +72,8 @@ fn two_at_most(from: Player, wins: &ByPlayer<Option<Win>>, riichi: &ByPlayer<boo
     }
 }
 
-pub(crate) fn winners(wins: &ByPlayer<Option<Win>>) -> ByPlayer<bool>
+/// Who wins.
+pub fn winners(wins: &ByPlayer<Option<Win>>) -> ByPlayer<bool>
     ensures { result ≡ spec.winners wins.now }
 {
     ByPlayer {

@@ -14,6 +14,7 @@ mod player;
 mod rules;
 mod rules_fault;
 mod state;
+mod sums;
 mod worth;
 
 pub use fault::OutcomeFault;

@@ -117,6 +117,20 @@ impl<T: Copy> ByPlayer<T> {
     }
 }
 
+impl ByPlayer<i32> {
+    /// The same numbers.
+    pub fn widened(&self) -> ByPlayer<i64>
+        ensures { result ≡ self.now }
+    {
+        ByPlayer {
+            first: i64::from(self.first),
+            second: i64::from(self.second),
+            third: i64::from(self.third),
+            fourth: i64::from(self.fourth),
+        }
+    }
+}
+
 impl ByPlayer<bool> {
     /// Whether there is one.
     pub fn any(&self) -> bool

@@ -1,5 +1,6 @@
 //! What a table has chosen.
 ghost use Rattle.std.specs.Prelude.{◌≡◌};
+ghost use Rattle.riichi_table.specs.RulesFaults.{cost_points};
 ghost use Rattle.riichi_table.specs.Tables as spec;
 
 use riichi_hand::Rules;
@@ -81,6 +82,18 @@ pub enum ChomboCost {
     Points(u32),
     /// A mangan paid backwards at once.
     Mangan,
+}
+
+impl ChomboCost {
+    /// The points off the final points.
+    pub fn penalty(self) -> u32
+        ensures { result ≡ cost_points self }
+    {
+        match self {
+            ChomboCost::Points(points) => points,
+            ChomboCost::Mangan => 0,
+        }
+    }
 }
 
 /// What a table has chosen. All points are points, not thousands.

@@ -1,8 +1,9 @@
 //! Which rules no table may choose.
-ghost use Rattle.std.specs.Prelude.{◌≡◌, ◌+ℤ◌, ◌≤ℤ◌, pos, negsuc};
+ghost use Rattle.std.specs.Prelude.{◌≡◌};
 ghost use Rattle.riichi_table.specs.RulesFaults as spec;
 
-use crate::rules::{ByPlace, ChomboCost, TableRules};
+use crate::rules::{ByPlace, TableRules};
+use crate::sums::sum_of_four;
 
 /// Why rules are refused.
 #[derive(Clone, Copy, Debug, PartialEq, Eq)]
@@ -45,16 +46,7 @@ fn has_points(rules: &TableRules) -> bool
     is_points(rules.start)
         && is_points(rules.returns)
         && is_points(rules.extra.unwrap_or(0))
-        && is_points(cost_points(rules.chombo))
-}
-
-fn cost_points(cost: ChomboCost) -> u32
-    ensures { result ≡ spec.cost_points cost }
-{
-    match cost {
-        ChomboCost::Points(points) => points,
-        ChomboCost::Mangan => 0,
-    }
+        && is_points(rules.chombo.penalty())
 }
 
 #[tactic(auto, unfolding(crate::specs::RulesFaults::is_points))]
@@ -90,21 +82,7 @@ fn rises(uma: &ByPlace<i32>) -> bool
 fn uma_sum(uma: &ByPlace<i32>) -> i64
     ensures { result ≡ spec.uma_sum uma.now }
 {
-    plus(
-        plus(plus(i64::from(uma.first), uma.second), uma.third),
-        uma.fourth,
-    )
-}
-
-/// One bonus more, of sums that stay far from any limit.
-fn plus(sum: i64, bonus: i32) -> i64
-    requires least { negsuc 9999999999 ≤ℤ sum }
-    requires most { sum ≤ℤ pos 9999999999 }
-    ensures value { result ≡ sum +ℤ bonus }
-    ensures least { (sum +ℤ negsuc 2147483647) ≤ℤ result }
-    ensures most { result ≤ℤ (sum +ℤ pos 2147483647) }
-{
-    sum + i64::from(bonus)
+    sum_of_four(uma.first, uma.second, uma.third, uma.fourth)
 }
 
 #[tactic(auto, unfolding(crate::specs::RulesFaults::has_steps))]

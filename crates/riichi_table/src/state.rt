@@ -4,6 +4,7 @@ ghost use Rattle.riichi_table.specs.States as spec;
 
 use crate::player::{ByPlayer, Player};
 use crate::rules::TableRules;
+use crate::sums::sum_of_four;
 use riichi_hand::Wind;
 
 /// What a table shows between two deals.
@@ -34,5 +35,15 @@ impl GameState {
             counters: 0,
             sticks: 0,
         }
+    }
+
+    /// The points of the four players, and 1000 for each stick on the table.
+    #[tactic(auto, unfolding(crate::specs::States::all_points))]
+    pub fn all_points(&self) -> i64
+        ensures { result ≡ spec.all_points self.now }
+    {
+        let points = &self.points;
+        let sticks = 1000 * i64::from(self.sticks);
+        sum_of_four(points.first, points.second, points.third, points.fourth) + sticks
     }
 }

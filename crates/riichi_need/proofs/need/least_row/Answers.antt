@@ -6,5 +6,5 @@ returns-in-Some c =
     let least = c.in-Some.ensures.least in (
       least,
       λ base h. greater_reaches_too c.args.question.now c.args.aim c.args.way c.in-Some.base base h least.1,
-      c.payment_of.ensures.value,
+      c.payment_for.ensures.value,
     )
