@@ -45,6 +45,8 @@ if command -v rustc > /dev/null; then
   rustc -O --edition 2021 -L "$(dirname "$archive")" -l static=riichi_desk_c examples/rust/answer.rs -o "$made/in_rust"
   told 'a program in Rust' "$(sha256sum < "$made/wanted")" "$("$made/in_rust" < "$made/lines" | sha256sum)"
   told 'a program in Rust, with explanations' "$(sha256sum < "$made/explained")" "$("$made/in_rust" explain < "$made/lines" | sha256sum)"
+  rustc -O --edition 2021 -L "$(dirname "$archive")" -l static=riichi_desk_c bench/src/both.rs -o "$made/both"
+  told 'a thousand random games by two ledgers' 'no difference' "$("$made/both" 1000 | grep -o 'no difference$')"
 else
   skip 'a program in Rust' rustc
 fi

@@ -22,6 +22,16 @@ impl From<u8> for Fault {
     }
 }
 
+/// What a line says, before it is asked whether the game and its rules allow it.
+#[derive(Clone, PartialEq, Eq, Debug)]
+pub enum Entry {
+    Deal(Deal),
+    DeadHand(usize),
+    Penalty { player: usize, points: i64 },
+    Stands(State),
+    End,
+}
+
 /// What a line does to a game.
 #[derive(Clone, PartialEq, Eq, Debug)]
 pub enum Step {
@@ -34,25 +44,48 @@ pub enum Step {
 
 /// The step of a line, or its first fault from the names on.
 pub fn judge(game: &Game, line: &Line) -> Result<Step, Fault> {
-    let step = match line {
-        Line::Ron { .. } | Line::Tsumo { .. } | Line::Draw { .. } | Line::Abort { .. } => deal_step(game, line)?,
-        Line::Chombo { name } => {
-            let player = player(game, name)?;
-            let (after, penalty, end) = dead_hand(&game.rules, &game.state, player);
-            Step::DeadHand { player, after, penalty, end }
+    step_of(game, &entry_of(game, line)?)
+}
+
+/// What a line says, or the first fault of its names, values and hands.
+pub fn entry_of(game: &Game, line: &Line) -> Result<Entry, Fault> {
+    Ok(match line {
+        Line::Ron { winners, discarder, riichi } => Entry::Deal(won(game, winners, Some(discarder), riichi)?),
+        Line::Tsumo { winner, riichi } => Entry::Deal(won(game, std::slice::from_ref(winner), None, riichi)?),
+        Line::Draw { ready, nagashi, riichi } => {
+            let ready = players(game, ready)?;
+            let nagashi = nagashi.as_ref().map(|names| players(game, names)).transpose()?;
+            Entry::Deal(Deal { outcome: Outcome::Draw { ready, nagashi }, bets: players(game, riichi)? })
         }
-        Line::Penalty { name, points } => return Ok(Step::Penalty { player: player(game, name)?, points: *points }),
+        Line::Abort { riichi } => Entry::Deal(Deal { outcome: Outcome::Abort, bets: players(game, riichi)? }),
+        Line::Chombo { name } => Entry::DeadHand(player(game, name)?),
+        Line::Penalty { name, points } => Entry::Penalty { player: player(game, name)?, points: *points },
         Line::Stands { round, dealer, counters, sticks, points } => {
-            let state = State { points: *points, round: *round, dealer: *dealer, counters: *counters, sticks: *sticks };
-            if !state.adds_up(&game.rules) || !game.rules.has_round(*round) {
+            Entry::Stands(State { points: *points, round: *round, dealer: *dealer, counters: *counters, sticks: *sticks })
+        }
+        Line::End => Entry::End,
+    })
+}
+
+/// What an entry does to a game, or the first fault of what the game and its rules don't allow.
+pub fn step_of(game: &Game, entry: &Entry) -> Result<Step, Fault> {
+    let step = match entry {
+        Entry::Deal(deal) => deal_step(game, deal)?,
+        Entry::DeadHand(player) => {
+            let (after, penalty, end) = dead_hand(&game.rules, &game.state, *player);
+            Step::DeadHand { player: *player, after, penalty, end }
+        }
+        Entry::Penalty { player, points } => return Ok(Step::Penalty { player: *player, points: *points }),
+        Entry::Stands(state) => {
+            if !state.adds_up(&game.rules) || !game.rules.has_round(state.round) {
                 return Err(11.into());
             }
-            if *counters > MOST || *sticks > MOST {
+            if state.counters > MOST || state.sticks > MOST {
                 return Err(12.into());
             }
-            Step::Stands(state)
+            Step::Stands(*state)
         }
-        Line::End => Step::End,
+        Entry::End => Step::End,
     };
     if game.is_over { Err(13.into()) } else { Ok(step) }
 }
@@ -74,18 +107,7 @@ fn players(game: &Game, names: &[&str]) -> Result<Some4, Fault> {
     Ok(all)
 }
 
-fn deal_step(game: &Game, line: &Line) -> Result<Step, Fault> {
-    let deal = match line {
-        Line::Ron { winners, discarder, riichi } => won(game, winners, Some(discarder), riichi)?,
-        Line::Tsumo { winner, riichi } => won(game, std::slice::from_ref(winner), None, riichi)?,
-        Line::Draw { ready, nagashi, riichi } => {
-            let ready = players(game, ready)?;
-            let nagashi = nagashi.as_ref().map(|names| players(game, names)).transpose()?;
-            Deal { outcome: Outcome::Draw { ready, nagashi }, bets: players(game, riichi)? }
-        }
-        Line::Abort { riichi } => Deal { outcome: Outcome::Abort, bets: players(game, riichi)? },
-        _ => unreachable!("these are the lines of deals"),
-    };
+fn deal_step(game: &Game, deal: &Deal) -> Result<Step, Fault> {
     if !is_allowed(&game.rules, &deal.outcome) {
         return Err(8.into());
     }
@@ -97,8 +119,8 @@ fn deal_step(game: &Game, line: &Line) -> Result<Step, Fault> {
             return Err(10.into());
         }
     }
-    let (after, end) = after(&game.rules, &game.state, &deal).ok_or(12)?;
-    Ok(Step::Deal { deal, after, end })
+    let (after, end) = after(&game.rules, &game.state, deal).ok_or(12)?;
+    Ok(Step::Deal { deal: deal.clone(), after, end })
 }
 
 /// Whether the rules know what an outcome names.

@@ -1,16 +1,16 @@
 //! The ledger of a game, in plain Rust: docs/GAME.md has its rules.
 mod coverage;
-mod ends;
-mod game;
-mod judge;
-mod need;
-mod random;
-mod rules;
+pub mod ends;
+pub mod game;
+pub mod judge;
+pub mod need;
+pub mod random;
+pub mod rules;
 mod run;
 mod settle;
-mod state;
+pub mod state;
 #[cfg(test)]
 mod tests;
-mod words;
+pub mod words;
 
 pub use run::{answer, answer_need, write_texts};

@@ -53,12 +53,12 @@ fn has_place(ties: Ties, points: &Four, player: usize, place: usize, is_strict: 
     if is_strict { alike < place } else { ahead(ties, points, player) < place }
 }
 
-/// The question: who, to which place, with whose bets.
-struct Need<'a> {
-    game: &'a Game,
-    player: usize,
-    place: usize,
-    bets: Some4,
+/// The question: who, to which place, with whose bets; the player's own changes nothing, and isn't among them.
+pub struct Need<'a> {
+    pub game: &'a Game,
+    pub player: usize,
+    pub place: usize,
+    pub bets: Some4,
 }
 
 impl Need<'_> {
@@ -71,16 +71,25 @@ impl Need<'_> {
         paid(&self.game.rules, &self.game.state, &Deal { outcome, bets: self.bets }).points
     }
 
-    /// The least row that brings the player there, or `none`.
-    fn least(&self, discarder: Option<usize>, is_strict: bool) -> String {
-        let rows = table(self.game, self.player, discarder.is_none());
+    /// The least row that brings the player there.
+    fn least_row(&self, discarder: Option<usize>, is_strict: bool) -> Option<Row> {
+        let mut rows = table(self.game, self.player, discarder.is_none());
         let ties = self.game.rules.ties;
         let reaches = |row: &Row| has_place(ties, &self.points_after(row, discarder), self.player, self.place, is_strict);
-        let Some(at) = rows.iter().position(reaches) else {
-            return "none".into();
-        };
+        let at = rows.iter().position(reaches)?;
         assert!(rows[at..].iter().all(reaches), "a greater win is no worse");
-        format!("{} {}", rows[at].pay, rows[at].values.join(" "))
+        Some(rows.swap_remove(at))
+    }
+
+    /// Its base points. (The comparison with the library asks them.)
+    #[allow(dead_code)]
+    pub fn least_base(&self, discarder: Option<usize>, is_strict: bool) -> Option<i64> {
+        self.least_row(discarder, is_strict).map(|row| row.base)
+    }
+
+    /// Its words, or `none`.
+    fn least(&self, discarder: Option<usize>, is_strict: bool) -> String {
+        self.least_row(discarder, is_strict).map_or("none".into(), |row| format!("{} {}", row.pay, row.values.join(" ")))
     }
 }
 
