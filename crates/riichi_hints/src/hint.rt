@@ -39,7 +39,7 @@ fn push_note(text: &mut AnswerText, line: &[u8], refusal: &Refusal<'_>)
 }
 
 fn push_hint(text: &mut AnswerText, rules: Rules, line: &[u8])
-    ensures { (hint : Option (List ℕ)) × IfSome hint (λ other. IsAnswered rules other × IsPrintable other)
+    ensures { (hint : Option (List ℕ)) × IfSome hint (λ one. IsAnswered rules one × IsPrintable one)
         × (text.new.bytes ≡ text.old.bytes ++ told_line (codes "  try: ") hint) }
 {
     if let Some(hint) = hint_of(rules, line) {

@@ -1,5 +1,5 @@
 ghost use Rattle.std.specs.Prelude.{◌≡◌, ◌≤◌, IfSome, length, option_map};
-ghost use Rattle.riichi_hand.specs.Keys.{key_named, key_meaning, is_same};
+ghost use Rattle.riichi_hand.specs.Keys.{key_named, key_meaning};
 ghost use Rattle.riichi_hand.specs.Entries.{key_in};
 
 use riichi_tiles::split_at_mark;
@@ -108,11 +108,5 @@ impl Key {
             b"seen" => Some(Key::Seen),
             _ => None,
         }
-    }
-
-    pub(crate) fn is_same(self, other: Key) -> bool
-        ensures { result ≡ is_same self other }
-    {
-        self as u8 == other as u8
     }
 }

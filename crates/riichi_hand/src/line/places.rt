@@ -130,7 +130,7 @@ fn has_digits(key: Key, least: usize, word: &[u8]) -> bool
     ensures { result ≡ spec.has_digits key least word.now }
 {
     match Key::of_word(word) {
-        Some(other) => key.is_same(other) && least <= digits_in(word),
+        Some(other) => key == other && least <= digits_in(word),
         None => false,
     }
 }
