@@ -324,6 +324,14 @@ for rules in 1 2; do
   told "what beginners are to try, under profile $rules" "status 0, $(wc -l < "$room/tried") answers" "status $status, $(grep -vc '^refused' "$room/answers") answers"
 done
 
+# a line to try is one that the rules of the line accept: before the own first draw a win by ron where they have the blessing of man
+blessed='win 234m567m345p67s99s on=5s by=Ron seat=S round=E flags=first'
+for by in '1 tsumo' '2-ura tsumo' '1+blessing-of-man ron' '2+blessing-of-man ron'; do
+  row 1 "refused H4
+  by=Ron: a win is by ron or tsumo
+  try: ${blessed/Ron/${by#* }}" '' explain --rules "${by% *}" "$blessed"
+done
+
 # someone types: the answer to a line comes before the next line is sent
 coproc desk { "$program" line; }
 to_desk=${desk[1]} from_desk=${desk[0]} typist=$desk_PID

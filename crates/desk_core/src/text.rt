@@ -5,7 +5,7 @@ ghost use Rattle.desk_core.specs.AnswerText as spec;
 use crate::answer::Answer;
 use riichi_score::push_win;
 use riichi_shape::{MOST_SHAPE, push_shape};
-use riichi_split::waits_text;
+use riichi_split::push_waits;
 use riichi_text::{ANSWER_ROOM, AnswerText};
 
 /// The answer on one line, without the line's end.
@@ -26,7 +26,7 @@ pub fn push_answer(text: &mut AnswerText, answer: &Answer)
 {
     match answer {
         Answer::Win(win) => push_win(text, win),
-        Answer::Waits(kinds) => text.push_str(waits_text(*kinds).as_str()),
+        Answer::Waits(kinds) => push_waits(text, *kinds),
         Answer::Shape(shape) => push_shape(text, shape),
     }
 }

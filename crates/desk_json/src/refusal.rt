@@ -1,13 +1,13 @@
 //! Why a line is refused.
 ghost use Rattle.std.specs.Prelude.{◌≡◌, ◌≤◌, ◌+◌, ◌++◌, IfSome, length, option_map};
 ghost use Rattle.arrayvec.specs.ArrayString.{array_string_len};
-ghost use Rattle.riichi_hand.specs.Places.{fault_from};
+ghost use Rattle.riichi_hand.specs.Refusals.{IsRefusalOf};
 ghost use Rattle.desk_json.specs.Parts as parts;
 ghost use Rattle.desk_json.specs.Text as spec;
 
 use crate::text::{JSON_ROOM, JsonText};
-use riichi_hand::{LineFault, Place, Refusal, line_code_text, name_text, notation_code_text};
-use riichi_refusals::{MOST_FAULT_WORDS, MOST_KEY, refusal_key, refusal_place, refusal_words};
+use riichi_hand::{Key, LineFault, Place, Refusal, line_code_text, name_text, notation_code_text};
+use riichi_refusals::{MOST_FAULT_WORDS, refusal_key, refusal_place, refusal_words};
 use riichi_text::{MOST_U64, push_number};
 
 /// The bytes of the longest refusal.
@@ -15,11 +15,11 @@ pub const MOST_REFUSAL: usize = MOST_CODE + MOST_KEY_MEMBER + MOST_PLACE + MOST_
 
 const MOST_CODE: usize = "{\"answer\":\"refused\",\"code\":\"N1".len()
     + "\",\"text\":\"".len()
-    + MOST_KEY
+    + Key::MOST_NAME
     + "\",\"place\":".len()
     + MOST_U64;
 
-const MOST_KEY_MEMBER: usize = ",\"key\":\"".len() + MOST_KEY + "\"".len();
+const MOST_KEY_MEMBER: usize = ",\"key\":\"".len() + Key::MOST_NAME + "\"".len();
 
 const MOST_PLACE: usize = ",\"at\":".len() + MOST_U64 + ",\"length\":".len() + MOST_U64;
 
@@ -27,8 +27,7 @@ const MOST_WORDS: usize = ",\"words\":\"".len() + MOST_FAULT_WORDS + "\"}".len()
 
 /// The refusal of a line as one object, without the line's end.
 pub fn refusal_text(line: &[u8], refusal: &Refusal<'_>) -> JsonText
-    requires { option_map (λ from. from.now) refusal.now.from
-        ≡ fault_from refusal.now.fault line.now }
+    requires { IsRefusalOf line.now refusal.now }
     ensures { result.bytes ≡ spec.refusal_json line.now refusal.now.fault }
 {
     let mut text = JsonText::new();
@@ -41,12 +40,11 @@ pub fn refusal_text(line: &[u8], refusal: &Refusal<'_>) -> JsonText
 #[tactic(auto, using(riichi_text::proofs::Pieces::pushed_four, crate::proofs::Refusals::refusal_written), unfolding(crate::specs::Parts::refusal_parts))]
 pub fn push_refusal(text: &mut JsonText, line: &[u8], refusal: &Refusal<'_>)
     requires room { array_string_len text.old + MOST_REFUSAL ≤ JSON_ROOM }
-    requires from { option_map (λ from. from.now) refusal.now.from
-        ≡ fault_from refusal.now.fault line.now }
+    requires refusal { IsRefusalOf line.now refusal.now }
     ensures { text.new.bytes ≡ text.old.bytes ++ spec.refusal_json line.now refusal.now.fault }
 {
     push_code(text, &refusal.fault);
-    push_key(text, refusal_key(line, refusal));
+    push_key(text, refusal_key(refusal));
     push_place(text, refusal_place(line, refusal));
     push_words(text, refusal_words(line, refusal));
 }
@@ -77,7 +75,7 @@ fn push_code(text: &mut JsonText, fault: &LineFault)
 #[tactic(auto, unfolding(crate::specs::Parts::key_json))]
 fn push_key(text: &mut JsonText, key: Option<&str>)
     requires room { array_string_len text.old + MOST_KEY_MEMBER ≤ JSON_ROOM }
-    requires short { IfSome key (λ key. length key.now ≤ MOST_KEY) }
+    requires short { IfSome key (λ key. length key.now ≤ Key.MOST_NAME) }
     ensures bytes { text.new.bytes
         ≡ text.old.bytes ++ parts.key_json (option_map (λ key. key.now) key.entry) }
     ensures len { array_string_len text.new ≤ array_string_len text.old + MOST_KEY_MEMBER }

@@ -105,7 +105,7 @@ last_feed false byte (one ∷ text) p feed =
 
 pub why-lines : (shown : Shown) (rules : Rules) (line why : List ℕ) → IsExplanation shown rules line why → are_indented why ≡ true
 unfolding IsExplanation
-why-lines shown rules line why is = outcome_text-lines shown line (outcome_of rules line) why is
+why-lines shown rules line why is = outcome_text-lines shown rules line (outcome_of rules line) why is
 
 -- one answer and its explanation, without the lines of this
 told-left : (shown : Shown) (rules : Rules) (line : List ℕ) (outcome : Option (List ℕ)) (told : Option (List ℕ)) (rest : List ℕ) → IsToldWithWhy shown rules line outcome told

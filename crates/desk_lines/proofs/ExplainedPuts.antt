@@ -24,14 +24,14 @@ may_be_told : (shown : Shown) (rules : Rules) (line : List ℕ) (outcome : Outco
 unfolding answer_of
 may_be_told shown rules line outcome told is with_why = subst (λ (o : Outcome). IsToldWithWhy shown rules line (outcome_text o) told) (sym is) with_why
 
-explained_so : (shown : Shown) (rules : Rules) (line why : List ℕ) (outcome : Outcome) → outcome_of rules line ≡ outcome → IsOutcomeText shown line outcome why → IsExplanation shown rules line why
+explained_so : (shown : Shown) (rules : Rules) (line why : List ℕ) (outcome : Outcome) → outcome_of rules line ≡ outcome → IsOutcomeText shown rules line outcome why → IsExplanation shown rules line why
 unfolding IsExplanation
-explained_so shown rules line why outcome is text = subst (λ (o : Outcome). IsOutcomeText shown line o why) (sym is) text
+explained_so shown rules line why outcome is text = subst (λ (o : Outcome). IsOutcomeText shown rules line o why) (sym is) text
 
-answer_with_why : (shown : Shown) (rules : Rules) (line why answer : List ℕ) (outcome : Outcome) → outcome_of rules line ≡ outcome → IsOutcomeText shown line outcome why
+answer_with_why : (shown : Shown) (rules : Rules) (line why answer : List ℕ) (outcome : Outcome) → outcome_of rules line ≡ outcome → IsOutcomeText shown rules line outcome why
     → (more : List ℕ) × IsAnswerWithWhy shown rules line answer (answer ++ more) × ((answer ++ more) ++ 10 ∷ [] ≡ (answer ++ 10 ∷ []) ++ why)
 answer_with_why shown rules line why answer outcome is text =
-    let more = last_feed true 10 why (outcome_text-lines shown line outcome why text) (λ same. refl) in (
+    let more = last_feed true 10 why (outcome_text-lines shown rules line outcome why text) (λ same. refl) in (
       more.0,
       record { why = why; explains = explained_so shown rules line why outcome is text; more = more.0; text_is = refl; more_is = more.1 },
       append_assoc answer more.0 (10 ∷ []) ∙ ap (λ (rest : List ℕ). answer ++ rest) more.1 ∙ sym (append_assoc answer (10 ∷ []) why),
@@ -46,7 +46,7 @@ puts_none shown rules line before after is same = record {
 }
 
 pub puts_said : (shown : Shown) (rules : Rules) (line before after why answer : List ℕ) (outcome : Outcome) (kind : LineKind) → outcome_of rules line ≡ outcome → outcome_text outcome ≡ Some answer → has_answer kind ≡ true
-    → IsOutcomeText shown line outcome why → after ≡ before ++ ((answer ++ 10 ∷ []) ++ why) → Puts (IsExplained shown rules line) kind before after
+    → IsOutcomeText shown rules line outcome why → after ≡ before ++ ((answer ++ 10 ∷ []) ++ why) → Puts (IsExplained shown rules line) kind before after
 puts_said shown rules line before after why answer outcome kind is said has text put =
     let with_why = answer_with_why shown rules line why answer outcome is text in record {
       told = Some (answer ++ with_why.0);

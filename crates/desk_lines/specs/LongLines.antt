@@ -49,8 +49,8 @@ answers_alike rules line other told long long_other is = is ∙ long_answer rule
 -- ---- their explanations
 
 -- their refusals are told alike, whatever is tried below
-refusal_kept : (line other why : List ℕ) → 4096 < length line → 4096 < length other → IsRefusalText line (Line H1) why → IsRefusalText other (Line H1) why
-refusal_kept line other why long long_other said =
+refusal_kept : (rules : Rules) (line other why : List ℕ) → 4096 < length line → 4096 < length other → IsRefusalText rules line (Line H1) why → IsRefusalText rules other (Line H1) why
+refusal_kept rules line other why long long_other said =
     let below = told_line (codes "  ") said.note ++ told_line (codes "  try: ") said.hint in record {
       note = said.note;
       is_note = said.is_note;
@@ -62,9 +62,9 @@ refusal_kept line other why long long_other said =
 explanation_kept : (shown : Shown) (rules : Rules) (line other why : List ℕ) → 4096 < length line → 4096 < length other → IsExplanation shown rules line why → IsExplanation shown rules other why
 unfolding IsExplanation
 explanation_kept shown rules line other why long long_other is =
-    let said = subst (λ (outcome : Result (Option Job) LineFault). IsOutcomeText shown line outcome why) (long_outcome rules line long) is in
-    subst (λ (outcome : Result (Option Job) LineFault). IsOutcomeText shown other outcome why) (sym (long_outcome rules other long_other))
-    (refusal_kept line other why long long_other said)
+    let said = subst (λ (outcome : Result (Option Job) LineFault). IsOutcomeText shown rules line outcome why) (long_outcome rules line long) is in
+    subst (λ (outcome : Result (Option Job) LineFault). IsOutcomeText shown rules other outcome why) (sym (long_outcome rules other long_other))
+    (refusal_kept rules line other why long long_other said)
 
 told_alike : (shown : Shown) (rules : Rules) (line other : List ℕ) (answer : Option (List ℕ)) (told : Option (List ℕ)) → 4096 < length line → 4096 < length other
     → IsToldWithWhy shown rules line answer told → IsToldWithWhy shown rules other answer told

@@ -14,7 +14,7 @@ use super::responder::Responder;
 use riichi_hand::{Job, Rules, ShapeRecord, fault_text, read_line};
 use riichi_score::{best, push_win};
 use riichi_shape::{RowSource, push_shape, shape_with};
-use riichi_split::{waits, waits_text};
+use riichi_split::{push_waits, waits};
 use riichi_tiles::KindSet;
 
 /// The plain answers: a line for each record.
@@ -84,7 +84,9 @@ pub(crate) fn put_waits(kinds: KindSet, outbox: &mut Outbox)
         ≡ outbox.old.bytes.items
         ++ (spec_waits.waits_text kinds ++ 10 ∷ []) }
 {
-    outbox.put_line(waits_text(kinds).as_str().as_bytes());
+    outbox.text.clear();
+    push_waits(&mut outbox.text, kinds);
+    outbox.put_text();
 }
 
 pub(crate) fn put_shape<S: RowSource>(tiles: &ShapeRecord, outbox: &mut Outbox, source: &mut S)

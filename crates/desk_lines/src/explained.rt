@@ -1,12 +1,12 @@
 //! The answer to one line, and why it is so.
-ghost use Rattle.std.specs.Prelude.{◌≡◌, ℕ, ◌+◌, ◌≤◌, List, ◌∷◌, ◌++◌, [], All, length, option_map};
+ghost use Rattle.std.specs.Prelude.{◌≡◌, ℕ, ◌+◌, ◌≤◌, List, ◌∷◌, ◌++◌, [], All, length};
 ghost use Rattle.desk_core.specs.AnswerText.{answer_text};
 ghost use Rattle.desk_core.specs.Value.{value_of};
 ghost use Rattle.riichi_explain.specs.Explanation.{IsJobText, IsWinText, IsBestText, AreOthers, IsShapeText};
 ghost use Rattle.riichi_explain.specs.Others.{others_text};
 ghost use Rattle.riichi_explain.specs.Win.{explained_reading};
 ghost use Rattle.riichi_hand.specs.FaultTexts.{fault_text};
-ghost use Rattle.riichi_hand.specs.Places.{fault_from};
+ghost use Rattle.riichi_hand.specs.Refusals.{IsRefusalOf};
 ghost use Rattle.riichi_hints.specs.Hint.{IsRefusalText};
 ghost use Rattle.riichi_score.specs.Best.{best_of};
 ghost use Rattle.riichi_score.specs.Fu.{HasFourSets};
@@ -112,7 +112,7 @@ fn put_explained<S: RowSource>(
             LineKind::Answered
         }
         Err(refusal) => {
-            put_refusal(line, &refusal, outbox);
+            put_refusal(rules, line, &refusal, outbox);
             LineKind::Refused
         }
     }
@@ -223,16 +223,15 @@ fn put_forms<S: RowSource>(tiles: &ShapeRecord, outbox: &mut Outbox, source: &mu
     outbox.put_why();
 }
 
-fn put_refusal(line: &[u8], refusal: &Refusal<'_>, outbox: &mut Outbox)
+fn put_refusal(rules: Rules, line: &[u8], refusal: &Refusal<'_>, outbox: &mut Outbox)
     requires room { HasRoom outbox.old }
-    requires from { option_map (λ from. from.now) refusal.now.from
-        ≡ fault_from refusal.now.fault line.now }
-    ensures { (why : List ℕ) × IsRefusalText line.now refusal.now.fault why
+    requires refusal { IsRefusalOf line.now refusal.now }
+    ensures { (why : List ℕ) × IsRefusalText rules line.now refusal.now.fault why
         × (outbox.new.bytes.items ≡ outbox.old.bytes.items
         ++ ((fault_text refusal.now.fault ++ 10 ∷ []) ++ why)) }
 {
     outbox.put_line(fault_text(&refusal.fault).as_str().as_bytes());
     outbox.text.clear();
-    push_refusal(&mut outbox.text, line, refusal);
+    push_refusal(&mut outbox.text, rules, line, refusal);
     outbox.put_lines();
 }

@@ -1,8 +1,8 @@
 //! The answer to one line as JSON.
-ghost use Rattle.std.specs.Prelude.{◌≡◌, option_map};
+ghost use Rattle.std.specs.Prelude.{◌≡◌};
 ghost use Rattle.desk_core.specs.Value.{value_of};
 ghost use Rattle.desk_json.specs.Text as spec;
-ghost use Rattle.riichi_hand.specs.Places.{fault_from};
+ghost use Rattle.riichi_hand.specs.Refusals.{IsRefusalOf};
 
 use super::line_kind::LineKind;
 use super::numbered::Numbers;
@@ -102,8 +102,7 @@ fn make_object<S: RowSource>(rules: Rules, job: &Job, outbox: &mut Outbox, sourc
 
 /// Makes the object of a refusal.
 fn make_refusal(line: &[u8], refusal: &Refusal<'_>, outbox: &mut Outbox)
-    requires { option_map (λ from. from.now) refusal.now.from
-        ≡ fault_from refusal.now.fault line.now }
+    requires { IsRefusalOf line.now refusal.now }
     ensures object { outbox.new.object.bytes ≡ spec.refusal_json line.now refusal.now.fault }
     ensures same { outbox.new.bytes ≡ outbox.old.bytes }
 {

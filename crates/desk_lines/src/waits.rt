@@ -13,8 +13,8 @@ ghost use Rattle.desk_lines.specs.WaitsLine.{concealed_hand};
 
 use arrayvec::ArrayString;
 use riichi_hand::{HandRecord, LineFault, TextName, fault_text};
-use riichi_split::{waits, waits_text};
-use riichi_tiles::{Counts, Melds, read_counts};
+use riichi_split::{push_waits, waits};
+use riichi_tiles::{Counts, KindSet, Melds, read_counts};
 
 /// The text of an answer, and whether it is a refusal.
 #[derive(Clone, Copy)]
@@ -51,11 +51,20 @@ fn answer_counts(counts: Counts) -> WaitsLine
         → (result.text.bytes ≡ fault_text (Line H8)) × (result.refused ≡ true) }
 {
     match HandRecord::new(counts, Melds::new()) {
-        Ok(hand) => WaitsLine {
-            text: waits_text(waits(&hand)),
-            refused: false,
-        },
+        Ok(hand) => answered(waits(&hand)),
         Err(fault) => refusal(&fault),
+    }
+}
+
+fn answered(kinds: KindSet) -> WaitsLine
+    ensures text { result.text.bytes ≡ waits_text kinds }
+    ensures refused { result.refused ≡ false }
+{
+    let mut text = ArrayString::new();
+    push_waits(&mut text, kinds);
+    WaitsLine {
+        text,
+        refused: false,
     }
 }
 

@@ -1,8 +1,8 @@
 //! Why a line is answered as it is.
-ghost use Rattle.std.specs.Prelude.{◌≡◌, ◌≤◌, option_map};
+ghost use Rattle.std.specs.Prelude.{◌≡◌, ◌≤◌};
 ghost use Rattle.riichi_explain.specs.declared.explaining.Shown.TheVariants.{BestReading};
 ghost use Rattle.riichi_explain.specs.Explanation.{IsJobText};
-ghost use Rattle.riichi_hand.specs.Places.{fault_from};
+ghost use Rattle.riichi_hand.specs.Refusals.{IsRefusalOf};
 ghost use Rattle.riichi_hints.specs.Hint.{IsRefusalText};
 ghost use Rattle.riichi_desk_c.specs.Reasons.{PlacesReason};
 
@@ -12,7 +12,7 @@ use riichi_explain::{
     REASONS_ROOM, ReasonsText, explain_shape, explain_waits, explain_win, push_shanten_line,
     push_waits_line, push_win_lines,
 };
-use riichi_hand::{Job, Refusal, read_placed};
+use riichi_hand::{Job, Refusal, Rules, read_placed};
 use riichi_hints::push_refusal;
 use riichi_shape::FreshRows;
 use riichi_text::AnswerText;
@@ -32,7 +32,7 @@ pub extern "C" fn riichi_explain(rules: u32, line: &[u8], room: &mut [u8]) -> us
     match read_placed(rules, line) {
         Ok(None) => place(b"", room),
         Ok(Some(job)) => place(job_lines(&job).as_str().as_bytes(), room),
-        Err(refusal) => place(refusal_text(line, &refusal).as_str().as_bytes(), room),
+        Err(refusal) => place(refusal_text(rules, line, &refusal).as_str().as_bytes(), room),
     }
 }
 
@@ -48,12 +48,11 @@ fn job_lines(job: &Job) -> ReasonsText
     text
 }
 
-fn refusal_text(line: &[u8], refusal: &Refusal<'_>) -> AnswerText
-    requires { option_map (λ from. from.now) refusal.now.from
-        ≡ fault_from refusal.now.fault line.now }
-    ensures { IsRefusalText line.now refusal.now.fault result.bytes }
+fn refusal_text(rules: Rules, line: &[u8], refusal: &Refusal<'_>) -> AnswerText
+    requires { IsRefusalOf line.now refusal.now }
+    ensures { IsRefusalText rules line.now refusal.now.fault result.bytes }
 {
     let mut text = AnswerText::new();
-    push_refusal(&mut text, line, refusal);
+    push_refusal(&mut text, rules, line, refusal);
     text
 }

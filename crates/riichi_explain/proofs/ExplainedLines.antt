@@ -6,6 +6,7 @@ use Rattle.riichi_tiles.specs.declared.block.Block.{Block}
 use Rattle.riichi_tiles.specs.declared.block.Block.TheVariants as block
 use Rattle.riichi_tiles.specs.declared.meld.Meld.{Meld}
 use Rattle.riichi_tiles.specs.declared.meld.Meld.TheVariants.{Chi, Pon, Kan, Ankan}
+use Rattle.riichi_hand.specs.Rules.{Rules}
 use Rattle.riichi_hand.specs.declared.fault.LineFault.{LineFault}
 use Rattle.riichi_hand.specs.declared.job.Job.{Job}
 use Rattle.riichi_hand.specs.declared.job.Job.TheVariants as job
@@ -455,7 +456,7 @@ job_text-lines shown (job.Shape shape) said is = ap are_indented is.text_is ∙ 
 
 -- ---- any outcome
 
-pub outcome_text-lines : (shown : Shown) (line : List ℕ) (outcome : Result (Option Job) LineFault) (said : List ℕ) → IsOutcomeText shown line outcome said → are_indented said ≡ true
-outcome_text-lines shown line (Ok None) said is = ap are_indented is
-outcome_text-lines shown line (Ok (Some job)) said is = job_text-lines shown job said is
-outcome_text-lines shown line (Err fault) said is = refusal_text-lines line fault said is
+pub outcome_text-lines : (shown : Shown) (rules : Rules) (line : List ℕ) (outcome : Result (Option Job) LineFault) (said : List ℕ) → IsOutcomeText shown rules line outcome said → are_indented said ≡ true
+outcome_text-lines shown rules line (Ok None) said is = ap are_indented is
+outcome_text-lines shown rules line (Ok (Some job)) said is = job_text-lines shown job said is
+outcome_text-lines shown rules line (Err fault) said is = refusal_text-lines rules line fault said is

@@ -9,12 +9,15 @@ use Rattle.riichi_hand.specs.declared.fault.LineCode.TheVariants.{H1, H6}
 use Rattle.riichi_hand.specs.declared.fault.LineFault.{LineFault}
 use Rattle.riichi_hand.specs.declared.fault.LineFault.TheVariants.{Line, Notation}
 use Rattle.riichi_hand.specs.Lines.{is_other_byte}
-use Rattle.riichi_hand.specs.Places.{key_of}
+use Rattle.riichi_hand.specs.declared.line.key.Key.{Key}
+use Rattle.riichi_hand.specs.Keys.{key_name, text_key}
+use Rattle.riichi_hand.specs.Refusals.{key_at}
+use Rattle.riichi_hand.specs.Rules.{Rules}
 use Rattle.riichi_refusals.specs.LineWords.{word_at_fault, text_word}
-use Rattle.riichi_refusals.specs.Meaning.{is_long, foreign_at, missing_key, refusal_words}
-use Rattle.riichi_refusals.specs.Refusal.{named_word, word_line, foreign_lines, missing_line, code_lines, place_in, notation_lines, fault_lines, refusal_lines}
+use Rattle.riichi_refusals.specs.Meaning.{is_long, foreign_at, refusal_words}
+use Rattle.riichi_refusals.specs.Refusal.{named_word, word_line, foreign_lines, missing_text, missing_line, code_lines, place_in, notation_lines, fault_lines, refusal_lines}
 use Rattle.riichi_refusals.specs.Shown.{hex_digit, byte_text, shown, around, shown_line, mark_line, marked_lines}
-use Rattle.riichi_refusals.proofs.QuietWords.{is_quiet, quiet, refusal_words-quiet, missing_key-quiet}
+use Rattle.riichi_refusals.proofs.QuietWords.{is_quiet, quiet, refusal_words-quiet, key_name-quiet}
 use Rattle.riichi_explain.proofs.PlainTexts.{plain, after, after3, byte-plain, flat_map-plain, replicate-plain, are_indented, pass, lines-append}
 use Rattle.riichi_hints.specs.Hint.{IsNote, IsAnswered, IsPrintable, told_line, IsRefusalText}
 
@@ -86,25 +89,28 @@ foreign_lines-lines line words p =
     elim (is_long line) as (λ test. are_indented (cond test (word_line None words) (marked_lines 9 place line words)) ≡ true)
     [ true ↦ word_line-lines None words p | false ↦ marked_lines-lines 9 place line words p ]
 
-missing_line-lines : (line words : List ℕ) → plain words ≡ true → are_indented (missing_line line words) ≡ true
+missing_text-plain : (key : Option Key) → plain (missing_text key) ≡ true
+missing_text-plain None = refl
+missing_text-plain (Some key) = after (key_name key) (codes " is missing: ") (quiet-plain (key_name key) (key_name-quiet key)) refl
+
+missing_line-lines : (key : Option Key) (words : List ℕ) → plain words ≡ true → are_indented (missing_line key words) ≡ true
 unfolding missing_line
-missing_line-lines line words p =
-    pass (missing_key line ++ codes " is missing: " ++ words) (10 ∷ []) (after3 (missing_key line) (codes " is missing: ") words (quiet-plain (missing_key line) (missing_key-quiet line)) refl p)
+missing_line-lines key words p = pass (missing_text key ++ words) (10 ∷ []) (after (missing_text key) words (missing_text-plain key) p)
 
 code_lines-lines : (code : LineCode) (line words : List ℕ) → plain words ≡ true → are_indented (code_lines code line words) ≡ true
 unfolding code_lines
 code_lines-lines H1 line words p = foreign_lines-lines line words p
-code_lines-lines H6 line words p = missing_line-lines line words p
+code_lines-lines H6 line words p = missing_line-lines (key_at (Line H6) line) words p
 code_lines-lines code line words p = word_line-lines (word_at_fault code line) words p
 
-notation_lines-lines : (place : ℕ) (key word words : List ℕ) → plain words ≡ true → are_indented (notation_lines place key word words) ≡ true
+notation_lines-lines : (place : ℕ) (key : Option Key) (word words : List ℕ) → plain words ≡ true → are_indented (notation_lines place key word words) ≡ true
 unfolding notation_lines
 notation_lines-lines place key word words p = marked_lines-lines 36 (place_in place key word) word words p
 
 fault_lines-lines : (line words : List ℕ) (fault : LineFault) → plain words ≡ true → are_indented (fault_lines line fault words) ≡ true
 unfolding fault_lines
 fault_lines-lines line words (Line code) p = code_lines-lines code line words p
-fault_lines-lines line words (Notation name fault) p = notation_lines-lines fault.place (key_of name) (unwrap_or (text_word name line) []) words p
+fault_lines-lines line words (Notation name fault) p = notation_lines-lines fault.place (text_key name) (unwrap_or (text_word name line) []) words p
 
 refusal_lines-lines : (line : List ℕ) (fault : LineFault) → are_indented (refusal_lines line fault) ≡ true
 unfolding refusal_lines
@@ -126,9 +132,9 @@ hint-lines : (P : List ℕ → Type 0) (hint : Option (List ℕ)) → IfSome hin
 hint-lines P None p = refl
 hint-lines P (Some words) p = pass (codes "try: " ++ words) (10 ∷ []) (after (codes "try: ") words refl (printable-plain words p.1))
 
-pub refusal_text-lines : (line : List ℕ) (fault : LineFault) (said : List ℕ) → IsRefusalText line fault said → are_indented said ≡ true
-refusal_text-lines line fault said is =
+pub refusal_text-lines : (rules : Rules) (line : List ℕ) (fault : LineFault) (said : List ℕ) → IsRefusalText rules line fault said → are_indented said ≡ true
+refusal_text-lines rules line fault said is =
     let note = told_line (codes "  ") is.note in
     let hint = told_line (codes "  try: ") is.hint in
-    let below = lines-append note hint (note-lines (IsNote fault line) is.note is.is_note) (hint-lines IsAnswered is.hint is.is_hint) in
+    let below = lines-append note hint (note-lines (IsNote fault line) is.note is.is_note) (hint-lines (IsAnswered rules) is.hint is.is_hint) in
     ap are_indented is.text_is ∙ lines-append (refusal_lines line fault) (note ++ hint) (refusal_lines-lines line fault) below

@@ -77,11 +77,11 @@ IsJobText shown (job.Waits hand) text = text ≡ waits_line (kind_waits hand)
 IsJobText shown (job.Shape shape) text = IsShapeText shape text
 
 -- The text says why a line with this outcome is answered as it is.
-abbrev pub IsOutcomeText : Shown → List ℕ → Result (Option Job) LineFault → List ℕ → Type 0
-IsOutcomeText shown line (Ok None) text = text ≡ []
-IsOutcomeText shown line (Ok (Some job)) text = IsJobText shown job text
-IsOutcomeText shown line (Err fault) text = IsRefusalText line fault text
+abbrev pub IsOutcomeText : Shown → Rules → List ℕ → Result (Option Job) LineFault → List ℕ → Type 0
+IsOutcomeText shown rules line (Ok None) text = text ≡ []
+IsOutcomeText shown rules line (Ok (Some job)) text = IsJobText shown job text
+IsOutcomeText shown rules line (Err fault) text = IsRefusalText rules line fault text
 
 -- The text says why a line is answered as it is.
 unfoldable pub IsExplanation : Shown → Rules → List ℕ → List ℕ → Type 0
-IsExplanation shown rules line text = IsOutcomeText shown line (outcome_of rules line) text
+IsExplanation shown rules line text = IsOutcomeText shown rules line (outcome_of rules line) text

@@ -210,7 +210,7 @@ fn what_programs_are_told(rt: HostRuntime) -> Result<(), Fail> {
     let Err(refusal) = read_placed(Rules::One, line) else {
         return Err("a line without a fault")?;
     };
-    same(&rt, refusal_key(line, &refusal), Some("seat"));
+    same(&rt, refusal_key(&refusal), Some("seat"));
     same(&rt, refusal_words(line, &refusal), "a seat is E, S, W or N");
     let place = refusal_place(line, &refusal).ok_or("no place")?;
     same(&rt, (place.at, place.length), (14, 6));

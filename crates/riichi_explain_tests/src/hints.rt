@@ -1,6 +1,6 @@
 use crate::facts::{holds, same, same_in};
 use arrayvec::ArrayString;
-use riichi_hand::{Rules, read_line, read_placed};
+use riichi_hand::{Rules, Switch, read_line, read_placed};
 use riichi_hints::{hint_of, push_refusal};
 use std::process::Abort;
 use std::test::Fail;
@@ -12,7 +12,7 @@ fn hints(rt: &impl Abort, hint: &str, lines: &[&str]) -> Result<(), Fail> {
     holds(rt, read_line(Rules::Two, hint.as_bytes()).is_ok());
     for line in lines {
         holds(rt, read_line(Rules::One, line.as_bytes()).is_err());
-        match hint_of(line.as_bytes()) {
+        match hint_of(Rules::One, line.as_bytes()) {
             Some(found) => match std::str::from_utf8(found.as_slice()) {
                 Ok(text) => same_in(rt, line, text, hint),
                 Err(_) => return Err("a hint that is no text")?,
@@ -76,6 +76,35 @@ fn words(rt: HostRuntime) -> Result<(), Fail> {
     )
 }
 
+/// A win by ron before the own first draw is one where the rules have the blessing of man, of another seat than East.
+#[test]
+fn rules_of_the_line(rt: HostRuntime) -> Result<(), Fail> {
+    let blessed = Rules::One.with(Switch::BlessingOfMan, true);
+    for (rules, seat, by) in [
+        (blessed, "S", "ron"),
+        (blessed, "E", "tsumo"),
+        (Rules::One, "S", "tsumo"),
+    ] {
+        let line = written("Ron", seat);
+        let Some(hint) = hint_of(rules, line.as_bytes()) else {
+            return Err("a line without a hint")?;
+        };
+        same(&rt, hint.as_slice(), written(by, seat).as_bytes());
+    }
+    Ok(())
+}
+
+/// A win at the first turn.
+fn written(by: &str, seat: &str) -> ArrayString<128> {
+    let mut line = ArrayString::new();
+    line.push_str("win 234m567m345p67s99s on=5s by=");
+    line.push_str(by);
+    line.push_str(" seat=");
+    line.push_str(seat);
+    line.push_str(" round=E flags=first");
+    line
+}
+
 /// No reading of these lines is answered.
 #[test]
 fn none(rt: HostRuntime) {
@@ -86,9 +115,9 @@ fn none(rt: HostRuntime) {
         "win",
         "",
     ] {
-        holds(&rt, hint_of(line.as_bytes()).is_none());
+        holds(&rt, hint_of(Rules::One, line.as_bytes()).is_none());
     }
-    holds(&rt, hint_of(&[b'1'; 513]).is_none());
+    holds(&rt, hint_of(Rules::One, &[b'1'; 513]).is_none());
 }
 
 #[test]
@@ -107,7 +136,7 @@ fn notes(rt: HostRuntime) -> Result<(), Fail> {
             return Err("a line without a fault")?;
         };
         let mut text = ArrayString::new();
-        push_refusal(&mut text, line.as_bytes(), &refusal);
+        push_refusal(&mut text, Rules::One, line.as_bytes(), &refusal);
         same(&rt, text.as_str(), lines);
     }
     Ok(())

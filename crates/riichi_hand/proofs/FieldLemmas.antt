@@ -10,8 +10,8 @@ use Rattle.std.proofs.lemmas.List.Folds.{list_any-append}
 use Rattle.riichi_hand.specs.declared.line.job_name.JobName.{JobName}
 use Rattle.riichi_hand.specs.declared.line.key.Key.{Key}
 use Rattle.riichi_hand.specs.declared.line.key.Key.TheVariants.{On, By, Seat, Round, Open, Riichi, Flags, Dora, Ura, Counters, Sticks, Seen}
-use Rattle.riichi_hand.specs.Keys.{ValueOf, value_for_key, value_at}
-use Rattle.riichi_hand.specs.Entries.{keyed_of, value_in, values_of, is_bad, is_doubled, every_key, first_item, first_or, is_again, entries_of, with_keyed}
+use Rattle.riichi_hand.specs.Keys.{every_key, ValueOf, value_for_key, value_at}
+use Rattle.riichi_hand.specs.Entries.{keyed_of, value_in, values_of, is_bad, is_doubled, first_item, first_or, is_again, entries_of, with_keyed}
 
 abbrev as_list : {X : Type 0} → Option X → List X
 as_list None = []

@@ -1,5 +1,5 @@
 -- A place is the end of its line.
-use Rattle.std.proofs.Common.{◌≡◌, ◌∙◌, inl, inr, codes, ℕ, zero, suc, ◌-◌, ◌≤◌, List, [], ◌∷◌, ◌++◌, Bool, true, false, Option, Some, None, length, drop, refl, sym, ap, subst, append_assoc, length-append, arith}
+use Rattle.std.proofs.Common.{◌≡◌, ◌∙◌, inl, inr, ℕ, zero, suc, ◌-◌, ◌≤◌, List, [], ◌∷◌, ◌++◌, Bool, true, false, Option, Some, None, length, drop, refl, sym, ap, subst, append_assoc, length-append, arith}
 use Rattle.std.specs.Prelude.{not, if◌then◌else◌}
 use Rattle.std.specs.List.{find}
 use Rattle.std.proofs.lemmas.Bool.{cases_Bool}
@@ -10,10 +10,12 @@ use Rattle.riichi_hand.specs.declared.fault.LineFault.{LineFault}
 use Rattle.riichi_hand.specs.declared.fault.LineFault.TheVariants.{Line, Notation}
 use Rattle.riichi_hand.specs.declared.fault.TextName.{TextName}
 use Rattle.riichi_hand.specs.declared.fault.TextName.TheVariants.{Hand, On, Dora, Ura, Seen}
+use Rattle.riichi_hand.specs.declared.line.key.Key.{Key}
+use Rattle.riichi_hand.specs.declared.line.key.Key.TheVariants as key
 use Rattle.riichi_hand.specs.Words.{is_space, words_of, starts, from_words, word_of}
 use Rattle.riichi_hand.specs.Entries.{first_item, is_bad}
 use Rattle.riichi_hand.specs.Parts.{parts_of}
-use Rattle.riichi_hand.specs.Places.{begins_with_digits, from_with, or_other, first_at, has_doubled, wrong_number, key_of, text_from, code_from, fault_from}
+use Rattle.riichi_hand.specs.Places.{has_digits, from_key, or_other, first_at, has_doubled, wrong_number, text_from, code_from, fault_from}
 
 abbrev IsEnd : List ℕ → List ℕ → Type 0
 IsEnd line from = (front : List ℕ) × (line ≡ front ++ from)
@@ -61,8 +63,8 @@ module _ (line : List ℕ) where
   all_ends : AreEnds line (from_words line)
   all_ends = starts-ends false [] line
 
-  with-picks : (start : List ℕ) (least : ℕ) → Picks line (from_with start least line)
-  with-picks start least = find-picks (λ from. begins_with_digits start least (word_of from)) line (from_words line) all_ends
+  key-picks : (key : Key) (least : ℕ) → Picks line (from_key key least line)
+  key-picks key least = find-picks (λ from. has_digits key least (word_of from)) line (from_words line) all_ends
 
   hand-picks : Picks line (first_item (drop 1 (from_words line)))
   hand-picks = first_item-picks line (drop 1 (from_words line)) (drop-ends 1 line (from_words line) all_ends)
@@ -70,15 +72,15 @@ module _ (line : List ℕ) where
   number-picks : Picks line (wrong_number line)
   unfolding wrong_number
   number-picks =
-      or_other-picks line _ _ (with-picks (codes "on=") 2) (or_other-picks line _ _ (with-picks (codes "dora=") 6) (or_other-picks line _ _ (with-picks (codes "ura=") 6) hand-picks))
+      or_other-picks line _ _ (key-picks key.On 2) (or_other-picks line _ _ (key-picks key.Dora 6) (or_other-picks line _ _ (key-picks key.Ura 6) hand-picks))
 
   text-picks : (name : TextName) → Picks line (text_from name line)
   unfolding text_from
   text-picks Hand = hand-picks
-  text-picks On = with-picks (key_of On) 0
-  text-picks Dora = with-picks (key_of Dora) 0
-  text-picks Ura = with-picks (key_of Ura) 0
-  text-picks Seen = with-picks (key_of Seen) 0
+  text-picks On = key-picks key.On 0
+  text-picks Dora = key-picks key.Dora 0
+  text-picks Ura = key-picks key.Ura 0
+  text-picks Seen = key-picks key.Seen 0
 
   code-picks : (code : LineCode) → Picks line (code_from code line)
   unfolding code_from
@@ -88,15 +90,15 @@ module _ (line : List ℕ) where
   code-picks H4 = find-picks (λ from. is_bad (parts_of (words_of line)).job (word_of from)) line (drop 2 (from_words line)) (drop-ends 2 line (from_words line) all_ends)
   code-picks H5 = first_at-picks (has_doubled (parts_of (words_of line)).job) line [] (drop 2 (from_words line)) (drop-ends 2 line (from_words line) all_ends)
   code-picks H6 = tt
-  code-picks H7 = with-picks (codes "open=") 0
+  code-picks H7 = key-picks key.Open 0
   code-picks H8 = number-picks
   code-picks H9 = tt
-  code-picks H10 = with-picks (codes "riichi=") 0
-  code-picks H11 = or_other-picks line _ _ (with-picks (codes "ura=") 0) (with-picks (codes "flags=") 0)
-  code-picks H12 = with-picks (codes "flags=") 0
-  code-picks H13 = with-picks (codes "flags=") 0
-  code-picks H14 = with-picks (codes "flags=") 0
-  code-picks H15 = with-picks (codes "flags=") 0
+  code-picks H10 = key-picks key.Riichi 0
+  code-picks H11 = or_other-picks line _ _ (key-picks key.Ura 0) (key-picks key.Flags 0)
+  code-picks H12 = key-picks key.Flags 0
+  code-picks H13 = key-picks key.Flags 0
+  code-picks H14 = key-picks key.Flags 0
+  code-picks H15 = key-picks key.Flags 0
   code-picks H16 = tt
 
   fault-picks : (fault : LineFault) → Picks line (fault_from fault line)

@@ -1,19 +1,20 @@
 -- What the words after the hand say, key by key.
-use Rattle.std.specs.Prelude.{◌≡◌, ◌⊎◌, ℕ, List, [], ◌∷◌, Bool, false, ◌||◌, not, Option, None, Some, is_some, if◌then◌else◌, length, nat_lt, option_map, unwrap_or}
+use Rattle.std.specs.Prelude.{◌≡◌, ◌⊎◌, ℕ, List, [], ◌∷◌, Bool, false, ◌||◌, not, Option, None, Some, is_some, if◌then◌else◌, length, nat_lt, option_and_then, option_map, unwrap_or}
 use Rattle.std.specs.List.{filter_map, list_any}
 use Rattle.riichi_tiles.specs.Melds.{cut_at}
 use Rattle.riichi_hand.specs.declared.line.job_name.JobName.{JobName}
 use Rattle.riichi_hand.specs.declared.line.key.Key.{Key}
 use Rattle.riichi_hand.specs.declared.line.key.Key.TheVariants.{On, By, Seat, Round, Open, Riichi, Flags, Dora, Ura, Counters, Sticks, Seen}
 use Rattle.riichi_hand.specs.declared.line.fields.Fields.{Fields}
-use Rattle.riichi_hand.specs.Keys.{key_named, has_key, ValueOf, value_for_key, value_at}
-
-abbrev pub every_key : List Key
-every_key = On ∷ By ∷ Seat ∷ Round ∷ Open ∷ Riichi ∷ Flags ∷ Dora ∷ Ura ∷ Counters ∷ Sticks ∷ Seen ∷ []
+use Rattle.riichi_hand.specs.Keys.{every_key, key_named, has_key, ValueOf, value_for_key, value_at}
 
 -- what stands before and after the first `=`
 abbrev pub cut_at_equals : List ℕ → Option (List ℕ × List ℕ)
 cut_at_equals word = cut_at 61 word
+
+-- the key of a word, where what stands before its first `=` is the name of one
+abbrev pub key_in : List ℕ → Option Key
+key_in word = option_and_then (λ cut. key_named cut.0) (cut_at_equals word)
 
 abbrev pub keyed_by : JobName → Option Key → List ℕ → Option (Key × List ℕ)
 keyed_by job None text = None

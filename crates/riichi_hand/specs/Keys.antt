@@ -1,6 +1,8 @@
 -- The jobs and their keys.
-use Rattle.std.specs.Prelude.{ℕ, ◌==◌, List, [], ◌∷◌, ◌++◌, Bool, Option, None, Some, codes}
+use Rattle.std.specs.Prelude.{ℕ, ◌==◌, List, [], ◌∷◌, ◌++◌, Bool, Option, None, Some, codes, map}
 use Rattle.std.specs.List.{list_any}
+use Rattle.riichi_hand.specs.declared.fault.TextName.{TextName}
+use Rattle.riichi_hand.specs.declared.fault.TextName.TheVariants as text
 use Rattle.riichi_hand.specs.declared.line.job_name.JobName.{JobName}
 use Rattle.riichi_hand.specs.declared.line.job_name.JobName.TheVariants.{Win, Waits, Shape}
 use Rattle.riichi_hand.specs.declared.line.key.Key.{Key}
@@ -13,16 +15,49 @@ use Rattle.riichi_hand.specs.Values.{value_beside, by_of, wind_of, riichi_of, nu
 abbrev pub job_named : List ℕ → Option JobName
 job_named word = value_beside ((codes "win", Win) ∷ (codes "waits", Waits) ∷ (codes "shape", Shape) ∷ []) word
 
--- the names of the keys
+-- ---- the keys, each with its name and with what its values are
+
+abbrev pub every_key : List Key
+every_key = On ∷ By ∷ Seat ∷ Round ∷ Open ∷ Riichi ∷ Flags ∷ Dora ∷ Ura ∷ Counters ∷ Sticks ∷ Seen ∷ []
+
+abbrev pub key_name : Key → List ℕ
+key_name On = codes "on"
+key_name By = codes "by"
+key_name Seat = codes "seat"
+key_name Round = codes "round"
+key_name Open = codes "open"
+key_name Riichi = codes "riichi"
+key_name Flags = codes "flags"
+key_name Dora = codes "dora"
+key_name Ura = codes "ura"
+key_name Counters = codes "counters"
+key_name Sticks = codes "sticks"
+key_name Seen = codes "seen"
+
+-- in words; tiles and melds have faults that are told by themselves
+abbrev pub key_meaning : Key → Option (List ℕ)
+key_meaning By = Some (codes "a win is by ron or tsumo")
+key_meaning Seat = Some (codes "a seat is E, S, W or N")
+key_meaning Round = Some (codes "a round is E, S, W or N")
+key_meaning Riichi = Some (codes "riichi is 0, 1 or 2")
+key_meaning Flags = Some (codes "flags are of ippatsu, rinshan, chankan, last and first, joined by commas, none twice")
+key_meaning Counters = Some (codes "counters are one or two digits")
+key_meaning Sticks = Some (codes "sticks are one or two digits")
+key_meaning key = None
+
 abbrev pub key_names : List (List ℕ × Key)
-key_names =
-    (codes "on", On) ∷ (codes "by", By) ∷ (codes "seat", Seat) ∷ (codes "round", Round)
-    ∷ (codes "open", Open) ∷ (codes "riichi", Riichi) ∷ (codes "flags", Flags)
-    ∷ (codes "dora", Dora) ∷ (codes "ura", Ura) ∷ (codes "counters", Counters) ∷ (codes "sticks", Sticks)
-    ∷ (codes "seen", Seen) ∷ []
+key_names = map (λ key. (key_name key, key)) every_key
 
 abbrev pub key_named : List ℕ → Option Key
 key_named word = value_beside key_names word
+
+-- the key whose value a text of tiles is; the hand has none
+abbrev pub text_key : TextName → Option Key
+text_key text.Hand = None
+text_key text.On = Some On
+text_key text.Dora = Some Dora
+text_key text.Ura = Some Ura
+text_key text.Seen = Some Seen
 
 -- the keys that must be there
 abbrev pub needed : JobName → List Key

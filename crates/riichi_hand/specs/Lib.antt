@@ -16,3 +16,4 @@ pub mod RulesWords
 pub mod RulesText
 pub mod Equality
 pub mod Places
+pub mod Refusals

@@ -4,6 +4,7 @@ ghost use Rattle.std.proofs.Common.{rules};
 use crate::fault::{LineCode, LineFault, TextName};
 use crate::hand::HandRecord;
 use crate::job::Job;
+use crate::line::{JobName, Key};
 use crate::rules::Rules;
 use crate::shape::ShapeRecord;
 use crate::switch::Switch;
@@ -64,6 +65,14 @@ impl Decided for Job {
     ghost use Rattle.riichi_hand.specs.contracts.decided.ShapeRecordDecided.TheImpl.Laws.{decides-law as shapes};
 
     ghost decides = { λ a b. Prim.search (rules, wins, hands, shapes) };
+}
+
+impl Decided for Key {
+    ghost decides = { λ a b. Prim.search rules };
+}
+
+impl Decided for JobName {
+    ghost decides = { λ a b. Prim.search rules };
 }
 
 impl Decided for LineCode {

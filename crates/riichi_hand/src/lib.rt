@@ -8,7 +8,8 @@
 //! [`read_line`] reads a record line, as `win 234m567m345p67s99s on=5s by=ron seat=S round=E`: it answers the job,
 //! nothing for a comment or a blank line, or the first fault of the line, whose text is [`fault_text`]. A [`LineCode`]
 //! is a fault of the line or of the record; a fault of a notation text comes with the text's [`TextName`].
-//! docs/NOTATION.md has the lines, their keys and the codes.
+//! docs/NOTATION.md has the lines, their keys and the codes. [`read_placed`] answers in place of a fault alone a [`Refusal`]: the
+//! fault, the word and the [`Key`] at which it stands, and the job that the line names.
 //!
 //! All of these are plain values: each can be copied and compared, and no call takes memory.
 //!
@@ -39,7 +40,7 @@ pub use fault::{
 pub use hand::HandRecord;
 pub use job::Job;
 pub use line::{
-    MOST_LINE, Place, Refusal, from_with, has_other_byte, is_other_byte, key_of, next_word,
+    JobName, Key, MOST_LINE, Place, Refusal, from_key, has_other_byte, is_other_byte, next_word,
     read_line, read_placed, without_spaces, word_len, word_of,
 };
 pub use rule_words::{MOST_RULES_WORDS, push_house_words, rules_words};

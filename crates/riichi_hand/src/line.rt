@@ -17,5 +17,7 @@ mod words;
 
 pub use bytes::{MOST_LINE, has_other_byte, is_other_byte};
 pub use cuts::{next_word, without_spaces, word_len, word_of};
-pub use places::{from_with, key_of};
+pub use job_name::JobName;
+pub use key::Key;
+pub use places::from_key;
 pub use record::{Place, Refusal, read_line, read_placed};

@@ -2,9 +2,10 @@
 use Rattle.std.specs.Prelude.{◌≡◌, ◌⊎◌, ℕ, ◌==◌, ◌+◌, ◌*◌, ◌<◌, ◌≤◌, List, [], ◌∷◌, ◌++◌, Bool, false, ◌&&◌, ◌||◌, Option, None, Some, length, nat_le, map, take, unwrap_or, codes, if◌then◌else◌}
 use Rattle.std.specs.Str.{bytes_eq}
 use Rattle.std.specs.List.{Any, filter_map, position_or_len}
+use Rattle.riichi_hand.specs.declared.line.key.Key.{Key}
+use Rattle.riichi_hand.specs.declared.line.key.Key.TheVariants as key
+use Rattle.riichi_hand.specs.Keys.{key_name}
 use Rattle.riichi_hand.specs.Words.{word_of}
-use Rattle.riichi_hints.specs.declared.names.Key.{Key}
-use Rattle.riichi_hints.specs.declared.names.Key.TheVariants as key
 use Rattle.riichi_hints.specs.declared.names.Meaning.{Meaning}
 use Rattle.riichi_hints.specs.declared.names.Meaning.TheVariants as meaning
 use Rattle.riichi_hints.specs.declared.names.TheConstants.{NAMES}
@@ -64,35 +65,21 @@ pub record IsNearest (name : List ℕ) (meaning : Meaning) : Type 0 where
 
 -- ---- the keys
 
-abbrev pub key_name : Key → Option (List ℕ)
-key_name key.Hand = None
-key_name key.On = Some (codes "on")
-key_name key.By = Some (codes "by")
-key_name key.Seat = Some (codes "seat")
-key_name key.Round = Some (codes "round")
-key_name key.Open = Some (codes "open")
-key_name key.Riichi = Some (codes "riichi")
-key_name key.Flags = Some (codes "flags")
-key_name key.Dora = Some (codes "dora")
-key_name key.Ura = Some (codes "ura")
-key_name key.Counters = Some (codes "counters")
-key_name key.Sticks = Some (codes "sticks")
-key_name key.Seen = Some (codes "seen")
-
 -- the key under which a line says this, where there is one
-abbrev pub said_under : Meaning → Option (List ℕ)
+abbrev pub said_under : Meaning → Option Key
 said_under (meaning.Job job) = None
-said_under (meaning.Key key) = key_name key
-said_under (meaning.By by) = Some (codes "by")
-said_under (meaning.Flag flag) = Some (codes "flags")
-said_under meaning.DoubleRiichi = Some (codes "riichi")
-said_under meaning.Meld = Some (codes "open")
+said_under meaning.Hand = None
+said_under (meaning.Key key) = Some key
+said_under (meaning.By by) = Some key.By
+said_under (meaning.Flag flag) = Some key.Flags
+said_under meaning.DoubleRiichi = Some key.Riichi
+said_under meaning.Meld = Some key.Open
 
 -- The note names the key of a name than which none is nearer to that of the word, and another than the word has.
 pub record IsKeyNote (from : Option (List ℕ)) (note : List ℕ) : Type 0 where
   pub meaning : Meaning
   pub nearest : IsNearest (plain_name (before_mark (word_of (unwrap_or from [])))) meaning
-  pub key : List ℕ
+  pub key : Key
   pub key_is : said_under meaning ≡ Some key
-  pub is_another : bytes_eq key (before_mark (word_of (unwrap_or from []))) ≡ false
-  pub note_is : note ≡ codes "the nearest key is " ++ key
+  pub is_another : bytes_eq (key_name key) (before_mark (word_of (unwrap_or from []))) ≡ false
+  pub note_is : note ≡ codes "the nearest key is " ++ key_name key

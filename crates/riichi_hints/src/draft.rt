@@ -1,14 +1,14 @@
 //! A draft of a line: what its words seem to say.
-use crate::names::{Flag, Job, Key, Meaning};
+use crate::names::{Flag, Meaning};
 use crate::text::{Part, add, add_all};
 use crate::tiles::add_tiles;
 use crate::values::{by_of, number_of, riichi_of, wind_of};
-use riichi_hand::{By, Flags};
+use riichi_hand::{By, Flags, JobName, Key};
 
 /// The parts of a line that is written anew. What is empty is not written.
 #[derive(Drop)]
 pub(crate) struct Draft {
-    pub(crate) job: Option<Job>,
+    pub(crate) job: Option<JobName>,
     pub(crate) hand: Part,
     pub(crate) on: Part,
     pub(crate) by: &'static str,
@@ -27,7 +27,7 @@ pub(crate) struct Draft {
     pub(crate) counters: Part,
     pub(crate) sticks: Part,
     pub(crate) seen: Part,
-    /// The last key that was named, whose value may go on.
+    /// The last key that was named, whose value may go on. None of the hand.
     pub(crate) key: Option<Key>,
 }
 
@@ -58,7 +58,6 @@ impl Draft {
     /// Takes the value of a key.
     pub(crate) fn put(&mut self, key: Key, value: &[u8]) {
         match key {
-            Key::Hand => add_tiles(&mut self.hand, value),
             Key::On => if self.on.is_empty() {
                 add_tiles(&mut self.on, value);
             },
@@ -74,6 +73,11 @@ impl Draft {
             Key::Sticks => put_first(&mut self.sticks, number_of(value)),
             Key::Seen => add_tiles(&mut self.seen, value),
         }
+    }
+
+    /// Takes tiles of the hand.
+    pub(crate) fn put_hand(&mut self, tiles: &[u8]) {
+        add_tiles(&mut self.hand, tiles);
     }
 
     /// Takes a meld. Which meld its tiles make; four of a kind are concealed where the name says so.
@@ -97,6 +101,7 @@ impl Draft {
     pub(crate) fn take(&mut self, meaning: Meaning) {
         match meaning {
             Meaning::Job(job) => self.job = Some(job),
+            Meaning::Hand => self.key = None,
             Meaning::Key(key) => self.key = Some(key),
             Meaning::By(By::Ron) => self.by = "ron",
             Meaning::By(By::Tsumo) => self.by = "tsumo",

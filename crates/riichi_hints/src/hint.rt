@@ -1,9 +1,9 @@
 //! The lines that follow a refusal, and among them a line that is answered.
-ghost use Rattle.std.specs.Prelude.{◌≡◌, ◌+◌, ◌≤◌, ◌++◌, ℕ, List, Option, Some, IfSome, length, codes, option_map, false, IsTrue, ◌↔◌};
+ghost use Rattle.std.specs.Prelude.{◌≡◌, ◌+◌, ◌≤◌, ◌++◌, ℕ, List, Option, Some, IfSome, length, codes, false, IsTrue, ◌↔◌};
 ghost use Rattle.std.specs.List.{list_any};
 ghost use Rattle.arrayvec.specs.ArrayString.{array_string_len};
 ghost use Rattle.riichi_hand.specs.Lines.{outcome_of, is_other_byte};
-ghost use Rattle.riichi_hand.specs.Places.{fault_from};
+ghost use Rattle.riichi_hand.specs.Refusals.{IsRefusalOf};
 ghost use Rattle.riichi_hints.specs.Hint.{is_record, IsNote, IsAnswered, IsPrintable, told_line, IsRefusalText};
 
 use crate::draft::Draft;
@@ -15,22 +15,20 @@ use riichi_refusals::{MOST_REFUSAL, push_refusal_lines};
 use riichi_text::{ANSWER_ROOM, AnswerText};
 
 /// Writes the lines that follow a refusal: the word at fault and what may stand there, a note where more can be said, and a
-/// line like the refused one that is answered, where one is found.
-pub fn push_refusal(text: &mut AnswerText, line: &[u8], refusal: &Refusal<'_>)
+/// line like the refused one that is answered under these rules, where one is found.
+pub fn push_refusal(text: &mut AnswerText, rules: Rules, line: &[u8], refusal: &Refusal<'_>)
     requires room { array_string_len text.old + MOST_REFUSAL ≤ ANSWER_ROOM }
-    requires from { option_map (λ from. from.now) refusal.now.from
-        ≡ fault_from refusal.now.fault line.now }
-    ensures { (said : List ℕ) × IsRefusalText line.now refusal.now.fault said
+    requires refusal { IsRefusalOf line.now refusal.now }
+    ensures { (said : List ℕ) × IsRefusalText rules line.now refusal.now.fault said
         × (text.new.bytes ≡ text.old.bytes ++ said) }
 {
     push_refusal_lines(text, line, refusal);
     push_note(text, line, refusal);
-    push_hint(text, line);
+    push_hint(text, rules, line);
 }
 
 fn push_note(text: &mut AnswerText, line: &[u8], refusal: &Refusal<'_>)
-    requires { option_map (λ from. from.now) refusal.now.from
-        ≡ fault_from refusal.now.fault line.now }
+    requires { IsRefusalOf line.now refusal.now }
     ensures { let fault = refusal.now.fault in
         (note : Option (List ℕ)) × IfSome note (λ words. IsNote fault line.now words × IsPrintable words)
         × (text.new.bytes ≡ text.old.bytes ++ told_line (codes "  ") note) }
@@ -40,26 +38,26 @@ fn push_note(text: &mut AnswerText, line: &[u8], refusal: &Refusal<'_>)
     }
 }
 
-fn push_hint(text: &mut AnswerText, line: &[u8])
-    ensures { (hint : Option (List ℕ)) × IfSome hint (λ other. IsAnswered other × IsPrintable other)
+fn push_hint(text: &mut AnswerText, rules: Rules, line: &[u8])
+    ensures { (hint : Option (List ℕ)) × IfSome hint (λ one. IsAnswered rules one × IsPrintable one)
         × (text.new.bytes ≡ text.old.bytes ++ told_line (codes "  try: ") hint) }
 {
-    if let Some(hint) = hint_of(line) {
+    if let Some(hint) = hint_of(rules, line) {
         push_line(text, "  try: ", hint.as_slice());
     }
 }
 
-/// A line like this one that is answered, where one is found: what a loose reading of its words makes of it.
-pub fn hint_of(line: &[u8]) -> Option<Line>
-    ensures { IfSome result (λ hint. IsAnswered hint.items) }
+/// A line like this one that is answered under these rules, where one is found: what a loose reading of its words makes of it.
+pub fn hint_of(rules: Rules, line: &[u8]) -> Option<Line>
+    ensures { IfSome result (λ hint. IsAnswered rules hint.items) }
 {
     if !is_read(line) {
         return None;
     }
     let mut draft = Draft::read(plain_line(line).as_slice());
-    draft.mend();
+    draft.mend(rules);
     let hint = draft.line();
-    if is_answered(Rules::One, hint.as_slice()) && is_answered(Rules::Two, hint.as_slice()) {
+    if is_answered(rules, hint.as_slice()) {
         Some(hint)
     } else {
         None

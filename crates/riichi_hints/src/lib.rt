@@ -2,8 +2,8 @@
 //!
 //! [`push_refusal`] writes the lines that follow a refusal, and below them `try:` and a line like the refused one that is
 //! answered, where one was found. The line is read loosely into a draft: names as players say them, upper case, tiles that stand
-//! apart, a winning tile that was counted in the hand. The draft is a guess, so it is shown only where both rule profiles read
-//! it as a record. No call takes memory.
+//! apart, a winning tile that was counted in the hand. The draft is a guess, so it is shown only where the rules of the line
+//! read it as a record. No call takes memory.
 //!
 //! ```text
 //! refused H4

@@ -2,32 +2,32 @@
 ghost use Rattle.std.specs.Prelude.{◌≡◌, ◌-◌, ◌*◌, ◌≤◌};
 
 use crate::draft::Draft;
-use crate::names::Job;
 use crate::text::add;
 use crate::tiles::{last_tile, tile_count, without, without_all};
+use riichi_hand::{JobName, Rules, Switch};
 
 impl Draft {
-    /// Sets right the job, the number of tiles and the circumstances of a win.
-    pub(crate) fn mend(&mut self) {
+    /// Sets right the job, the number of tiles and the circumstances of a win under these rules.
+    pub(crate) fn mend(&mut self, rules: Rules) {
         let job = self.likely_job();
         self.job = Some(job);
         self.mend_hand();
-        if job == Job::Win {
+        if job == JobName::Win {
             self.mend_on();
-            self.mend_circumstances();
+            self.mend_circumstances(rules);
         }
     }
 
     /// Fourteen tiles have no waits; who names a winning tile, a seat or how it was won asks for a win.
-    fn likely_job(&self) -> Job {
+    fn likely_job(&self) -> JobName {
         let is_whole = tile_count(self.hand.as_slice()) % 3 == 2;
         match self.job {
-            Some(Job::Waits) | None => if self.job.is_none() && self.names_win() {
-                Job::Win
+            Some(JobName::Waits) | None => if self.job.is_none() && self.names_win() {
+                JobName::Win
             } else if is_whole {
-                Job::Shape
+                JobName::Shape
             } else {
-                Job::Waits
+                JobName::Waits
             },
             Some(job) => job,
         }
@@ -68,11 +68,12 @@ impl Draft {
     }
 
     /// What a win must tell, and what its flags ask for.
-    fn mend_circumstances(&mut self) {
+    fn mend_circumstances(&mut self, rules: Rules) {
+        let by_draw = self.flags.rinshan || self.flags.first && !self.is_blessed(rules);
         if self.by.is_empty() || self.flags.chankan {
             self.by = "ron";
         }
-        if self.flags.rinshan || self.flags.first {
+        if by_draw {
             self.by = "tsumo";
         }
         if self.seat.is_empty() {
@@ -82,6 +83,11 @@ impl Draft {
             self.round = "E";
         }
         self.mend_riichi();
+    }
+
+    /// Whether these rules have the blessing of man, and the line says so: by ron of another seat than the dealer's.
+    fn is_blessed(&self, rules: Rules) -> bool {
+        rules.has(Switch::BlessingOfMan) && self.by == "ron" && self.seat != "E"
     }
 
     /// Ippatsu and ura dora are of riichi, which an open hand can't have.

@@ -6,33 +6,7 @@ ghost use Rattle.riichi_hints.specs.Near as spec;
 ghost use Rattle.riichi_hints.specs.Near.{IsWithin, IsReached, IsNearest};
 
 use crate::text::Part;
-use riichi_hand::By;
-
-/// What a line asks.
-#[derive(Clone, Copy, Debug, PartialEq, Eq)]
-pub(crate) enum Job {
-    Win,
-    Waits,
-    Shape,
-}
-
-/// What a value is of.
-#[derive(Clone, Copy, Debug, PartialEq, Eq)]
-pub(crate) enum Key {
-    Hand,
-    On,
-    By,
-    Seat,
-    Round,
-    Open,
-    Riichi,
-    Flags,
-    Dora,
-    Ura,
-    Counters,
-    Sticks,
-    Seen,
-}
+use riichi_hand::{By, JobName, Key};
 
 #[derive(Clone, Copy, Debug, PartialEq, Eq)]
 pub(crate) enum Flag {
@@ -46,7 +20,8 @@ pub(crate) enum Flag {
 /// What a word means.
 #[derive(Clone, Copy, Debug, PartialEq, Eq)]
 pub(crate) enum Meaning {
-    Job(Job),
+    Job(JobName),
+    Hand,
     Key(Key),
     By(By),
     Flag(Flag),
@@ -57,22 +32,22 @@ pub(crate) enum Meaning {
 
 /// The names, in small letters and without hyphens. The first of each key is its own.
 const NAMES: [(&str, Meaning); 89] = [
-    ("win", Meaning::Job(Job::Win)),
-    ("wins", Meaning::Job(Job::Win)),
-    ("won", Meaning::Job(Job::Win)),
-    ("score", Meaning::Job(Job::Win)),
-    ("agari", Meaning::Job(Job::Win)),
-    ("waits", Meaning::Job(Job::Waits)),
-    ("wait", Meaning::Job(Job::Waits)),
-    ("waiting", Meaning::Job(Job::Waits)),
-    ("machi", Meaning::Job(Job::Waits)),
-    ("tenpai", Meaning::Job(Job::Waits)),
-    ("shape", Meaning::Job(Job::Shape)),
-    ("shanten", Meaning::Job(Job::Shape)),
-    ("ukeire", Meaning::Job(Job::Shape)),
-    ("discard", Meaning::Job(Job::Shape)),
-    ("hand", Meaning::Key(Key::Hand)),
-    ("tiles", Meaning::Key(Key::Hand)),
+    ("win", Meaning::Job(JobName::Win)),
+    ("wins", Meaning::Job(JobName::Win)),
+    ("won", Meaning::Job(JobName::Win)),
+    ("score", Meaning::Job(JobName::Win)),
+    ("agari", Meaning::Job(JobName::Win)),
+    ("waits", Meaning::Job(JobName::Waits)),
+    ("wait", Meaning::Job(JobName::Waits)),
+    ("waiting", Meaning::Job(JobName::Waits)),
+    ("machi", Meaning::Job(JobName::Waits)),
+    ("tenpai", Meaning::Job(JobName::Waits)),
+    ("shape", Meaning::Job(JobName::Shape)),
+    ("shanten", Meaning::Job(JobName::Shape)),
+    ("ukeire", Meaning::Job(JobName::Shape)),
+    ("discard", Meaning::Job(JobName::Shape)),
+    ("hand", Meaning::Hand),
+    ("tiles", Meaning::Hand),
     ("on", Meaning::Key(Key::On)),
     ("tile", Meaning::Key(Key::On)),
     ("wintile", Meaning::Key(Key::On)),

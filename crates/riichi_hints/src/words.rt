@@ -4,10 +4,10 @@ ghost use Rattle.std.specs.List.{position};
 ghost use Rattle.riichi_hints.specs.Near.{is_mark, before_mark};
 
 use crate::draft::Draft;
-use crate::names::{Key, Meaning, meaning_of, nearest_meaning};
+use crate::names::{Meaning, meaning_of, nearest_meaning};
 use crate::tiles::are_tiles;
 use crate::values::is_no;
-use riichi_hand::next_word;
+use riichi_hand::{Key, next_word};
 
 impl Draft {
     /// What the words of a line seem to say, up to a note.
@@ -45,6 +45,7 @@ impl Draft {
             None => self.read_bare(word),
             Some((name, value)) => match nearest_meaning(name) {
                 None => {}
+                Some(Meaning::Hand) => self.read_tiles(value),
                 Some(Meaning::Key(key)) => self.read_value(key, value),
                 Some(Meaning::Meld) => self.put_meld(name, value),
                 Some(Meaning::Job(_)) => self.put(Key::On, value),
@@ -60,6 +61,15 @@ impl Draft {
         }
         if !is_no(value) {
             self.take(meaning);
+        }
+    }
+
+    /// The value of `hand` is its tiles, or a meld.
+    fn read_tiles(&mut self, value: &[u8]) {
+        self.key = None;
+        match cut_name(value) {
+            Some((name, tiles)) => self.put_meld(name, tiles),
+            None => self.put_hand(value),
         }
     }
 
@@ -86,20 +96,18 @@ impl Draft {
 
     /// A word without a name is the value of the key before it, or belongs to the hand.
     fn read_loose(&mut self, word: &[u8]) {
-        match self.key {
-            Some(Key::By | Key::Seat | Key::Round | Key::Counters | Key::Sticks) | None =>
-                if are_tiles(word) {
-                    self.read_hand(word);
-                },
-            Some(key) => if are_tiles(word) {
-                self.put(key, word);
-            },
+        if !are_tiles(word) {
+            return;
         }
-    }
-
-    fn read_hand(&mut self, word: &[u8]) {
-        if self.key.is_none() || self.hand.is_empty() {
-            self.put(Key::Hand, word);
+        match self.key {
+            None => self.put_hand(word),
+            Some(Key::By | Key::Seat | Key::Round | Key::Counters | Key::Sticks) => if self
+                .hand
+                .is_empty()
+            {
+                self.put_hand(word);
+            },
+            Some(key) => self.put(key, word),
         }
     }
 }

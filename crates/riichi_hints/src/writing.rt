@@ -1,15 +1,15 @@
 //! The line that a draft makes.
 use crate::draft::Draft;
-use crate::names::Job;
 use crate::text::{Line, Part, add, add_all};
+use riichi_hand::JobName;
 
 impl Draft {
     /// The line, its words in the order of the notation.
     pub(crate) fn line(&self) -> Line {
         let mut line = Line::new();
         match self.job {
-            Some(Job::Win) => self.write_win(&mut line),
-            Some(Job::Shape) => {
+            Some(JobName::Win) => self.write_win(&mut line),
+            Some(JobName::Shape) => {
                 self.write_hand(&mut line, "shape ");
                 write_entry(&mut line, " seen=", self.seen.as_slice());
             }
@@ -21,7 +21,7 @@ impl Draft {
     fn write_hand(&self, line: &mut Line, job: &str) {
         add_all(line, job.as_bytes());
         add_all(line, self.hand.as_slice());
-        if self.job != Some(Job::Win) {
+        if self.job != Some(JobName::Win) {
             write_entry(line, " open=", self.melds.as_slice());
         }
     }

@@ -1,5 +1,5 @@
 -- What a refusal asks for, in words.
-use Rattle.std.specs.Prelude.{ℕ, ◌==◌, List, [], ◌∷◌, nat_eq, codes, slice_index_or, Option, None, Some, if◌then◌else◌}
+use Rattle.std.specs.Prelude.{ℕ, ◌==◌, List, [], ◌∷◌, nat_eq, codes, slice_index_or, Option, None, Some, unwrap_or, if◌then◌else◌}
 use Rattle.std.specs.List.{starts_with}
 use Rattle.riichi_tiles.specs.declared.notation.NotationCode.{NotationCode}
 use Rattle.riichi_tiles.specs.declared.notation.NotationCode.TheVariants.{N1, N2, N3, N4, N5, N6}
@@ -7,6 +7,10 @@ use Rattle.riichi_hand.specs.declared.fault.LineCode.{LineCode}
 use Rattle.riichi_hand.specs.declared.fault.LineCode.TheVariants.{H1, H2, H3, H4, H5, H6, H7, H8, H9, H10, H11, H12, H13, H14, H15, H16}
 use Rattle.riichi_hand.specs.declared.fault.LineFault.{LineFault}
 use Rattle.riichi_hand.specs.declared.fault.LineFault.TheVariants.{Line, Notation}
+use Rattle.riichi_hand.specs.declared.line.job_name.JobName.{JobName}
+use Rattle.riichi_hand.specs.declared.line.job_name.JobName.TheVariants.{Win, Waits, Shape}
+use Rattle.riichi_hand.specs.declared.line.key.Key.{Key}
+use Rattle.riichi_hand.specs.Keys.{has_key, key_meaning}
 
 -- what holds of a line without this fault
 abbrev pub line_words : LineCode → List ℕ
@@ -47,28 +51,20 @@ abbrev pub first_word_words : Option (List ℕ) → List ℕ
 first_word_words None = line_words H2
 first_word_words (Some word) = if starts_with nat_eq word (codes "rules") then codes "rules 1 or rules 2 stands alone, in the first line" else line_words H2
 
-abbrev pub keys_words : List ℕ → List ℕ
-keys_words job =
-    if starts_with nat_eq job (codes "waits") then codes "after the hand of waits stands open= alone"
-    else (if starts_with nat_eq job (codes "shape") then codes "after the hand of shape stand open= and seen= alone"
-    else codes "after the hand of win stand on=, by=, seat=, round=, open=, riichi=, flags=, dora=, ura=, counters= and sticks= alone")
+abbrev pub keys_words : JobName → List ℕ
+keys_words Waits = codes "after the hand of waits stands open= alone"
+keys_words Shape = codes "after the hand of shape stand open= and seen= alone"
+keys_words Win = codes "after the hand of win stand on=, by=, seat=, round=, open=, riichi=, flags=, dora=, ura=, counters= and sticks= alone"
 
--- the values of a key, each of which is a fault where it is another
-abbrev pub win_words : List ℕ → List ℕ
-win_words word =
-    if starts_with nat_eq word (codes "by=") then codes "a win is by ron or tsumo"
-    else (if starts_with nat_eq word (codes "seat=") then codes "a seat is E, S, W or N"
-    else (if starts_with nat_eq word (codes "round=") then codes "a round is E, S, W or N"
-    else (if starts_with nat_eq word (codes "riichi=") then codes "riichi is 0, 1 or 2"
-    else (if starts_with nat_eq word (codes "flags=") then codes "flags are of ippatsu, rinshan, chankan, last and first, joined by commas, none twice"
-    else (if starts_with nat_eq word (codes "counters=") then codes "counters are one or two digits"
-    else (if starts_with nat_eq word (codes "sticks=") then codes "sticks are one or two digits"
-    else keys_words (codes "win")))))))
+-- the values of a key that the job can have, where another value is a fault; else the keys
+abbrev pub job_words : JobName → Option Key → List ℕ
+job_words job None = keys_words job
+job_words job (Some key) = if has_key job key then unwrap_or (key_meaning key) (keys_words job) else keys_words job
 
--- what may stand after the hand in place of a word
-unfoldable pub entry_words : Option (List ℕ) → Option (List ℕ) → List ℕ
-entry_words (Some job) (Some word) = if starts_with nat_eq job (codes "win") then win_words word else keys_words job
-entry_words job word = line_words H4
+-- what may stand after the hand in place of a word of this key
+unfoldable pub entry_words : Option JobName → Option Key → List ℕ
+entry_words None key = line_words H4
+entry_words (Some job) key = job_words job key
 
 -- a byte that is no printable ASCII
 unfoldable pub byte_words : List ℕ → ℕ → List ℕ

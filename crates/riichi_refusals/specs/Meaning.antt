@@ -1,19 +1,18 @@
 -- What a refusal means: what may stand at the fault, the key that is at fault, and its place in the line.
-use Rattle.std.specs.Prelude.{◌≡◌, ℕ, ◌<◌, ◌++◌, List, Bool, length, map, nat_eq, nat_lt, true, Option, None, Some, is_some, option_and_then, option_map, unwrap_or, codes, if◌then◌else◌}
-use Rattle.std.specs.List.{find, position, starts_with}
+use Rattle.std.specs.Prelude.{◌≡◌, ℕ, ◌<◌, List, Bool, length, nat_lt, true, Option, None, Some, option_map, unwrap_or, codes, if◌then◌else◌}
+use Rattle.std.specs.List.{position}
 use Rattle.std.proofs.Common.{refl, sym, ap, ◌∙◌}
 use Rattle.std.proofs.lemmas.Bool.{lt-ltb}
 use Rattle.riichi_hand.specs.declared.fault.LineCode.{LineCode}
-use Rattle.riichi_hand.specs.declared.fault.LineCode.TheVariants.{H1, H2, H3, H4, H6, H8}
+use Rattle.riichi_hand.specs.declared.fault.LineCode.TheVariants.{H1, H2, H3, H4, H8}
 use Rattle.riichi_hand.specs.declared.fault.LineFault.{LineFault}
 use Rattle.riichi_hand.specs.declared.fault.LineFault.TheVariants.{Line, Notation}
 use Rattle.riichi_hand.specs.declared.line.record.Place.{Place}
-use Rattle.riichi_hand.specs.Entries.{first_item}
-use Rattle.riichi_hand.specs.FaultTexts.{name_text}
-use Rattle.riichi_hand.specs.Keys.{key_names}
+use Rattle.riichi_hand.specs.declared.line.key.Key.{Key}
+use Rattle.riichi_hand.specs.Keys.{key_name}
 use Rattle.riichi_hand.specs.Lines.{is_other_byte}
-use Rattle.riichi_hand.specs.Places.{code_from, from_with, place_of}
-use Rattle.riichi_hand.specs.Words.{words_of}
+use Rattle.riichi_hand.specs.Places.{code_from, place_of}
+use Rattle.riichi_hand.specs.Refusals.{key_at, job_at}
 use Rattle.riichi_refusals.specs.Faults.{line_words, notation_words, first_word_words, entry_words, byte_words}
 use Rattle.riichi_refusals.specs.LineWords.{word_at_fault}
 
@@ -33,7 +32,7 @@ foreign_words line = if is_long line then line_words H1 else byte_words line (un
 unfoldable pub code_words : LineCode → List ℕ → List ℕ
 code_words H1 line = foreign_words line
 code_words H2 line = first_word_words (word_at_fault H2 line)
-code_words H4 line = entry_words (first_item (words_of line)) (word_at_fault H4 line)
+code_words H4 line = entry_words (job_at (Line H4) line) (key_at (Line H4) line)
 code_words code line = line_words code
 
 unfoldable pub refusal_words : List ℕ → LineFault → List ℕ
@@ -42,31 +41,16 @@ refusal_words line (Notation name fault) = notation_words fault.code
 
 -- ---- the key at fault
 
--- the name of a key, where a word begins with it and its `=`
-abbrev pub key_begun : List ℕ → Option (List ℕ)
-key_begun word = find (λ name. starts_with nat_eq word (name ++ codes "=")) (map (λ named. named.0) key_names)
+-- The name of the key. Without one these are faults of the hand.
+unfoldable pub key_text : LineFault → Option Key → Option (List ℕ)
+key_text fault (Some key) = Some (key_name key)
+key_text (Line H3) None = Some (codes "hand")
+key_text (Line H8) None = Some (codes "hand")
+key_text (Line code) None = None
+key_text (Notation name fault) None = Some (codes "hand")
 
-abbrev pub word_key : LineCode → List ℕ → Option (List ℕ)
-word_key code line = option_and_then key_begun (word_at_fault code line)
-
--- the first key that a win must have and that no word gives
-abbrev pub missing_key : List ℕ → List ℕ
-missing_key line =
-    if is_some (from_with (codes "on=") 0 line)
-    then (if is_some (from_with (codes "by=") 0 line)
-    then (if is_some (from_with (codes "seat=") 0 line) then codes "round" else codes "seat")
-    else codes "by") else codes "on"
-
--- H3 and H8 are faults of the hand where their word is that of no key
-unfoldable pub code_key : LineCode → List ℕ → Option (List ℕ)
-code_key H3 line = Some (unwrap_or (word_key H3 line) (codes "hand"))
-code_key H6 line = Some (missing_key line)
-code_key H8 line = Some (unwrap_or (word_key H8 line) (codes "hand"))
-code_key code line = word_key code line
-
-unfoldable pub refusal_key : List ℕ → LineFault → Option (List ℕ)
-refusal_key line (Line code) = code_key code line
-refusal_key line (Notation name fault) = Some (name_text name)
+abbrev pub refusal_key : List ℕ → LineFault → Option (List ℕ)
+refusal_key line fault = key_text fault (key_at fault line)
 
 -- ---- the place of the fault
 
@@ -102,5 +86,5 @@ pub long_places_alike : (line other : List ℕ) → 4096 < length line → 4096 
 long_places_alike line other long long_other = long_place line long ∙ sym (long_place other long_other)
 
 pub long_keys_alike : (line other : List ℕ) → refusal_key line (Line H1) ≡ refusal_key other (Line H1)
-unfolding refusal_key code_key code_from
+unfolding key_at code_from
 long_keys_alike line other = refl

@@ -6,9 +6,11 @@ use Rattle.riichi_hand.specs.declared.fault.LineCode.{LineCode}
 use Rattle.riichi_hand.specs.declared.fault.LineCode.TheVariants.{H1, H6}
 use Rattle.riichi_hand.specs.declared.fault.LineFault.{LineFault}
 use Rattle.riichi_hand.specs.declared.fault.LineFault.TheVariants.{Line, Notation}
-use Rattle.riichi_hand.specs.Places.{key_of}
+use Rattle.riichi_hand.specs.declared.line.key.Key.{Key}
+use Rattle.riichi_hand.specs.Keys.{key_name, text_key}
+use Rattle.riichi_hand.specs.Refusals.{key_at}
 use Rattle.riichi_refusals.specs.LineWords.{word_at_fault, text_word}
-use Rattle.riichi_refusals.specs.Meaning.{is_long, foreign_at, missing_key, refusal_words, long_words_alike}
+use Rattle.riichi_refusals.specs.Meaning.{is_long, foreign_at, refusal_words, long_words_alike}
 use Rattle.riichi_refusals.specs.Shown.{shown, marked_lines}
 
 -- the first 72 bytes of a word that is at fault
@@ -23,24 +25,33 @@ word_line word words = codes "  " ++ named_word word ++ words ++ codes "\n"
 unfoldable pub foreign_lines : List ℕ → List ℕ → List ℕ
 foreign_lines line words = if is_long line then word_line None words else marked_lines 9 (unwrap_or (foreign_at line) 0) line words
 
-unfoldable pub missing_line : List ℕ → List ℕ → List ℕ
-missing_line line words = codes "  " ++ missing_key line ++ codes " is missing: " ++ words ++ codes "\n"
+abbrev pub missing_text : Option Key → List ℕ
+missing_text None = []
+missing_text (Some key) = key_name key ++ codes " is missing: "
+
+unfoldable pub missing_line : Option Key → List ℕ → List ℕ
+missing_line key words = codes "  " ++ missing_text key ++ words ++ codes "\n"
 
 unfoldable pub code_lines : LineCode → List ℕ → List ℕ → List ℕ
 code_lines H1 line words = foreign_lines line words
-code_lines H6 line words = missing_line line words
+code_lines H6 line words = missing_line (key_at (Line H6) line) words
 code_lines code line words = word_line (word_at_fault code line) words
 
--- the place of a text's fault in its word
-abbrev pub place_in : ℕ → List ℕ → List ℕ → ℕ
-place_in place key word = length key + min place (length word)
+-- how many bytes stand in a word before the value of its key
+abbrev pub value_at : Option Key → ℕ
+value_at None = 0
+value_at (Some key) = length (key_name key) + 1
 
-unfoldable pub notation_lines : ℕ → List ℕ → List ℕ → List ℕ → List ℕ
+-- the place of a text's fault in its word
+abbrev pub place_in : ℕ → Option Key → List ℕ → ℕ
+place_in place key word = value_at key + min place (length word)
+
+unfoldable pub notation_lines : ℕ → Option Key → List ℕ → List ℕ → List ℕ
 notation_lines place key word words = marked_lines 36 (place_in place key word) word words
 
 unfoldable pub fault_lines : List ℕ → LineFault → List ℕ → List ℕ
 fault_lines line (Line code) words = code_lines code line words
-fault_lines line (Notation name fault) words = notation_lines fault.place (key_of name) (unwrap_or (text_word name line) []) words
+fault_lines line (Notation name fault) words = notation_lines fault.place (text_key name) (unwrap_or (text_word name line) []) words
 
 unfoldable pub refusal_lines : List ℕ → LineFault → List ℕ
 refusal_lines line fault = fault_lines line fault (refusal_words line fault)

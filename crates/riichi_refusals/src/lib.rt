@@ -19,6 +19,6 @@ mod refusal;
 mod shown;
 mod words;
 
-pub use meaning::{MOST_KEY, refusal_key, refusal_place, refusal_words};
+pub use meaning::{refusal_key, refusal_place, refusal_words};
 pub use refusal::{MOST_REFUSAL, push_refusal_lines};
 pub use words::{MOST_FAULT_WORDS, fault_words};

@@ -1,14 +1,13 @@
 //! The lines that follow a refusal.
 ghost use Rattle.std.specs.Prelude.{◌≡◌, ◌+◌, ◌≤◌, ◌++◌, length, option_map};
 ghost use Rattle.arrayvec.specs.ArrayString.{array_string_len};
-ghost use Rattle.riichi_hand.specs.Places.{fault_from};
-ghost use Rattle.riichi_refusals.specs.LineWords.{word_at_fault};
+ghost use Rattle.riichi_hand.specs.Refusals.{IsRefusalOf};
 ghost use Rattle.riichi_refusals.specs.Refusal as spec;
 
-use crate::meaning::{MOST_KEY, foreign_at, missing_key, refusal_words, word_in};
+use crate::meaning::{foreign_at, refusal_words};
 use crate::shown::{BEFORE, MOST_MARKED, MOST_SHOWN, SHOWN, front, push_marked, push_shown};
 use crate::words::MOST_FAULT_WORDS;
-use riichi_hand::{LineCode, LineFault, MOST_LINE, Refusal, key_of};
+use riichi_hand::{Key, LineCode, LineFault, MOST_LINE, Refusal};
 use riichi_text::{ANSWER_ROOM, AnswerText};
 
 /// The bytes of the longest lines of a refusal: a word that is at fault with a mark below it.
@@ -16,46 +15,28 @@ pub const MOST_REFUSAL: usize = MOST_MARKED;
 
 const MOST_NAMED_WORD: usize = MOST_SHOWN + ": ".len();
 
+const MOST_MISSING: usize = Key::MOST_NAME + " is missing: ".len();
+
 /// Writes the lines of a refusal: the word of the line that is at fault, and what may stand there. All that it writes is
 /// printable, and each of its lines begins with two spaces.
-#[tactic(auto, unfolding(crate::specs::Refusal::refusal_lines, crate::specs::Refusal::fault_lines))]
+#[tactic(auto, unfolding(crate::specs::Refusal::refusal_lines, crate::specs::Refusal::fault_lines, crate::specs::Refusal::code_lines, riichi_hand::specs::Refusals::key_at))]
 pub fn push_refusal_lines(text: &mut AnswerText, line: &[u8], refusal: &Refusal<'_>)
     requires room { array_string_len text.old + MOST_REFUSAL ≤ ANSWER_ROOM }
-    requires from { option_map (λ from. from.now) refusal.now.from
-        ≡ fault_from refusal.now.fault line.now }
+    requires refusal { IsRefusalOf line.now refusal.now }
     ensures { text.new.bytes ≡ text.old.bytes ++ spec.refusal_lines line.now refusal.now.fault }
 {
-    let word = word_in(refusal);
     let words = refusal_words(line, refusal);
     match refusal.fault {
-        LineFault::Line(code) => push_code_lines(text, code, line, word, words),
-        LineFault::Notation(name, fault) => push_notation_lines(
+        LineFault::Line(LineCode::H1) => push_foreign_lines(text, line, words),
+        LineFault::Line(LineCode::H6) => push_missing_line(text, refusal.key, words),
+        LineFault::Line(_) => push_word_line(text, refusal.word(), words),
+        LineFault::Notation(_, fault) => push_notation_lines(
             text,
             fault.place,
-            key_of(name),
-            word.unwrap_or(&[]),
+            refusal.key,
+            refusal.word().unwrap_or(&[]),
             words,
         ),
-    }
-}
-
-#[tactic(auto, unfolding(crate::specs::Refusal::code_lines))]
-fn push_code_lines(
-    text: &mut AnswerText,
-    code: LineCode,
-    line: &[u8],
-    word: Option<&[u8]>,
-    words: &str,
-)
-    requires room { array_string_len text.old + MOST_REFUSAL ≤ ANSWER_ROOM }
-    requires word { option_map (λ word. word.now) word ≡ word_at_fault code line.now }
-    requires words { length words.now ≤ MOST_FAULT_WORDS }
-    ensures { text.new.bytes ≡ text.old.bytes ++ spec.code_lines code line.now words.now }
-{
-    match code {
-        LineCode::H1 => push_foreign_lines(text, line, words),
-        LineCode::H6 => push_missing_line(text, line, words),
-        _ => push_word_line(text, word, words),
     }
 }
 
@@ -101,27 +82,58 @@ fn push_foreign_lines(text: &mut AnswerText, line: &[u8], words: &str)
 }
 
 /// Tells the first key that a win must have and that no word gives.
-#[tactic(auto, using(riichi_text::proofs::Pieces::pushed_five), unfolding(crate::specs::Refusal::missing_line))]
-fn push_missing_line(text: &mut AnswerText, line: &[u8], words: &str)
+#[tactic(auto, unfolding(crate::specs::Refusal::missing_line))]
+fn push_missing_line(text: &mut AnswerText, key: Option<Key>, words: &str)
     requires room { array_string_len text.old + MOST_REFUSAL ≤ ANSWER_ROOM }
     requires words { length words.now ≤ MOST_FAULT_WORDS }
-    ensures { text.new.bytes ≡ text.old.bytes ++ spec.missing_line line.now words.now }
+    ensures { text.new.bytes ≡ text.old.bytes ++ spec.missing_line key words.now }
 {
     text.push_str("  ");
-    text.push_str(missing_key(line));
-    text.push_str(" is missing: ");
+    push_missing(text, key);
     text.push_str(words);
     text.push_str("\n");
 }
 
+fn push_missing(text: &mut AnswerText, key: Option<Key>)
+    requires { array_string_len text.old + MOST_MISSING ≤ ANSWER_ROOM }
+    ensures bytes { text.new.bytes ≡ text.old.bytes ++ spec.missing_text key }
+    ensures len { array_string_len text.new ≤ array_string_len text.old + MOST_MISSING }
+{
+    if let Some(key) = key {
+        text.push_str(key.name());
+        text.push_str(" is missing: ");
+    }
+}
+
 /// Shows the place of a text's fault in its word.
 #[tactic(auto, unfolding(crate::specs::Refusal::notation_lines))]
-fn push_notation_lines(text: &mut AnswerText, place: usize, key: &[u8], word: &[u8], words: &str)
+fn push_notation_lines(
+    text: &mut AnswerText,
+    place: usize,
+    key: Option<Key>,
+    word: &[u8],
+    words: &str,
+)
     requires room { array_string_len text.old + MOST_REFUSAL ≤ ANSWER_ROOM }
-    requires key { length key.now ≤ MOST_KEY }
     requires words { length words.now ≤ MOST_FAULT_WORDS }
-    ensures { text.new.bytes
-        ≡ text.old.bytes ++ spec.notation_lines place key.now word.now words.now }
+    ensures { text.new.bytes ≡ text.old.bytes ++ spec.notation_lines place key word.now words.now }
 {
-    push_marked(text, word, key.len() + place.min(word.len()), BEFORE, words);
+    push_marked(
+        text,
+        word,
+        value_at(key) + place.min(word.len()),
+        BEFORE,
+        words,
+    );
+}
+
+/// How many bytes stand in a word before the value of its key. The hand has none.
+fn value_at(key: Option<Key>) -> usize
+    ensures value { result ≡ spec.value_at key }
+    ensures few { result ≤ Key.MOST_NAME + 1 }
+{
+    match key {
+        Some(key) => key.name().len() + 1,
+        None => 0,
+    }
 }

@@ -2,7 +2,7 @@
 ghost use Rattle.std.specs.Prelude.{◌≡◌, ◌==◌, ◌≤◌, length, option_map, slice_index_or};
 ghost use Rattle.riichi_refusals.specs.Faults as spec;
 
-use riichi_hand::{LineCode, LineFault};
+use riichi_hand::{JobName, Key, LineCode, LineFault};
 use riichi_tiles::NotationCode;
 
 /// The bytes of the longest words: the keys of a win.
@@ -76,59 +76,32 @@ pub(crate) fn first_word_words(word: Option<&[u8]>) -> &'static str
     }
 }
 
-/// What may stand after the hand in place of a word.
+/// What may stand after the hand in place of a word of this key: its values, where the job can have it, else the keys.
 #[tactic(auto, unfolding(crate::specs::Faults::entry_words))]
-pub(crate) fn entry_words(job: Option<&[u8]>, word: Option<&[u8]>) -> &'static str
-    ensures value { result.now
-        ≡ spec.entry_words (option_map (λ job. job.now) job.entry) (option_map
-        (λ word. word.now) word.entry) }
+pub(crate) fn entry_words(job: Option<JobName>, key: Option<Key>) -> &'static str
+    ensures value { result.now ≡ spec.entry_words job key }
     ensures short { length result.now ≤ MOST_FAULT_WORDS }
 {
-    match (job, word) {
-        (Some(job), Some(word)) => if job.starts_with(b"win") {
-            win_words(word)
-        } else {
-            keys_words(job)
+    match (job, key) {
+        (None, _) => line_words(LineCode::H4),
+        (Some(job), None) => keys_words(job),
+        (Some(job), Some(key)) => match key.meaning() {
+            Some(meaning) if job.has_key(key) => meaning,
+            _ => keys_words(job),
         },
-        _ => line_words(LineCode::H4),
     }
 }
 
 /// The keys of a job.
-fn keys_words(job: &[u8]) -> &'static str
-    ensures value { result.now ≡ spec.keys_words job.now }
+fn keys_words(job: JobName) -> &'static str
+    ensures value { result.now ≡ spec.keys_words job }
     ensures short { length result.now ≤ MOST_FAULT_WORDS }
 {
-    if job.starts_with(b"waits") {
-        "after the hand of waits stands open= alone"
-    } else if job.starts_with(b"shape") {
-        "after the hand of shape stand open= and seen= alone"
-    } else {
-        "after the hand of win stand on=, by=, seat=, round=, open=, riichi=, flags=, dora=, ura=, counters= and sticks= alone"
-    }
-}
-
-/// The values of a key of a win, where another value of it is a fault; else the keys.
-fn win_words(word: &[u8]) -> &'static str
-    ensures value { result.now ≡ spec.win_words word.now }
-    ensures short { length result.now ≤ MOST_FAULT_WORDS }
-{
-    if word.starts_with(b"by=") {
-        "a win is by ron or tsumo"
-    } else if word.starts_with(b"seat=") {
-        "a seat is E, S, W or N"
-    } else if word.starts_with(b"round=") {
-        "a round is E, S, W or N"
-    } else if word.starts_with(b"riichi=") {
-        "riichi is 0, 1 or 2"
-    } else if word.starts_with(b"flags=") {
-        "flags are of ippatsu, rinshan, chankan, last and first, joined by commas, none twice"
-    } else if word.starts_with(b"counters=") {
-        "counters are one or two digits"
-    } else if word.starts_with(b"sticks=") {
-        "sticks are one or two digits"
-    } else {
-        keys_words(b"win")
+    match job {
+        JobName::Waits => "after the hand of waits stands open= alone",
+        JobName::Shape => "after the hand of shape stand open= and seen= alone",
+        JobName::Win =>
+            "after the hand of win stand on=, by=, seat=, round=, open=, riichi=, flags=, dora=, ura=, counters= and sticks= alone",
     }
 }
 

@@ -1,4 +1,5 @@
 use crate::facts::{holds, same};
+use arrayvec::ArrayString;
 use riichi_hand::HandRecord;
 use riichi_split::*;
 use riichi_tiles::{Block, Counts, Kind, KindSet, Meld, Melds, read_counts};
@@ -112,6 +113,12 @@ fn tells_a_win(rt: HostRuntime) -> Result<(), Fail> {
         same(&rt, is_win(&tiles(text)?, melds), won);
     }
     Ok(())
+}
+
+fn waits_text(kinds: KindSet) -> ArrayString<MOST_WAITS> {
+    let mut text = ArrayString::new();
+    push_waits(&mut text, kinds);
+    text
 }
 
 fn waits_of(text: &[u8], melds: Melds) -> Result<KindSet, Fail> {

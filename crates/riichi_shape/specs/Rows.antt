@@ -12,7 +12,7 @@ use Rattle.riichi_rows.specs.Row.{AreJoinedBeside}
 use Rattle.riichi_rows.specs.declared.joined.JoinedRows.{JoinedRows}
 use Rattle.riichi_rows.specs.declared.row.SuitRow.{SuitRow}
 use Rattle.riichi_shape.specs.Special.{AreSpecialForms}
-use Rattle.riichi_shape.specs.Suits.{IsRowOf}
+use Rattle.riichi_shape.specs.Suits.{AreHandCaps, IsRowOf}
 use Rattle.riichi_shape.specs.declared.hand_forms.HandForms.{HandForms}
 use Rattle.riichi_shape.specs.declared.halves.Halves.{Halves}
 use Rattle.riichi_shape.specs.declared.hand_joins.HandJoins.{HandJoins}
@@ -77,8 +77,9 @@ pub record AreJoinsBeside (kind : ℕ) (hand : List ℕ) (melds : List Meld) (jo
   pub joins_before : AreJoinsOfHand before melds joins
   pub differ : DifferAt kind before hand
 
--- the rows of a hand with their joins, and what it lacks of the other forms
+-- the rows of a hand with their joins, what it lacks of the other forms, and what its melds leave
 pub record AreFormsOf (hand : List ℕ) (melds : List Meld) (forms : HandForms) : Type 0 where
   pub are_rows : AreRowsOf hand melds forms.rows
   pub are_joins : AreJoinsOf forms.rows forms.joins
   pub special : AreSpecialForms hand melds forms.special
+  pub are_caps : AreHandCaps melds forms.caps

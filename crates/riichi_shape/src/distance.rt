@@ -6,6 +6,7 @@ ghost use Rattle.riichi_shape.specs.EveryWinning.{distance_of, shanten_of};
 ghost use Rattle.riichi_shape.specs.Rows.{AreJoinsBeside, AreRowsOf, IsRowAt};
 ghost use Rattle.riichi_shape.specs.Special.{SpecialLacks};
 
+use crate::hand_caps::hand_caps_of;
 use crate::hand_joins::HandJoins;
 use crate::hand_rows::{HandRows, hand_rows_of};
 use crate::special::SpecialForms;
@@ -73,7 +74,7 @@ pub fn shanten_with<R: RowSource>(source: &mut R, hand: &Counts, melds: &Melds) 
     ensures none_less { NoneLacksLess hand.now melds.now result }
     ensures stays { source.new ≡ source.old }
 {
-    let rows = hand_rows_of(source, hand, melds);
+    let rows = hand_rows_of(source, hand, &hand_caps_of(melds));
     shanten_at(distance_by(&rows, hand, melds))
 }
 

@@ -5,8 +5,9 @@ ghost use Rattle.riichi_shape.specs.Accepted.{without_one};
 ghost use Rattle.riichi_shape.specs.Distance.{IsDistance};
 ghost use Rattle.riichi_shape.specs.EveryWinning.{distance_of};
 ghost use Rattle.riichi_shape.specs.LackedKinds.{AreLackedOf};
-ghost use Rattle.riichi_shape.specs.Rows.{AreFormsOf, AreRowsOf, IsRowAt};
+ghost use Rattle.riichi_shape.specs.Rows.{AreFormsOf, IsRowAt};
 
+use crate::hand_caps::{HandCaps, hand_caps_of};
 use crate::hand_joins::HandJoins;
 use crate::hand_rows::{HandRows, hand_rows_of, with_row};
 use crate::lacked_kinds::LackedKinds;
@@ -22,6 +23,8 @@ pub(crate) struct HandForms {
     pub(crate) rows: HandRows,
     pub(crate) joins: HandJoins,
     pub(crate) special: SpecialForms,
+    /// What the melds leave of each kind, by which a row is made anew.
+    pub(crate) caps: HandCaps,
 }
 
 impl HandForms {
@@ -30,20 +33,13 @@ impl HandForms {
         ensures forms { AreFormsOf hand.now melds.now result }
         ensures stays { source.new ≡ source.old }
     {
-        let rows = hand_rows_of(source, hand, melds);
-        HandForms::of_rows(rows, hand, melds)
-    }
-
-    /// What is known of a hand that has these rows.
-    pub(crate) fn of_rows(rows: HandRows, hand: &Counts, melds: &Melds) -> HandForms
-        requires { AreRowsOf hand.now melds.now rows }
-        ensures { AreFormsOf hand.now melds.now result }
-    {
-        let special = SpecialForms::new(hand, melds);
+        let caps = hand_caps_of(melds);
+        let rows = hand_rows_of(source, hand, &caps);
         HandForms {
             rows,
             joins: HandJoins::new(&rows),
-            special,
+            special: SpecialForms::new(hand, melds),
+            caps,
         }
     }
 

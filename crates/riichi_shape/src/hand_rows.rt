@@ -1,31 +1,29 @@
 //! The rows of a hand.
-ghost use Rattle.std.specs.Prelude.{ℕ, ◌≡◌, ◌<◌, ◌≤◌, List};
+ghost use Rattle.std.specs.Prelude.{ℕ, ◌≡◌, List};
 ghost use Rattle.riichi_tiles.specs.Kinds.{suit_of};
-ghost use Rattle.riichi_tiles.specs.Melds.{tiles};
 ghost use Rattle.riichi_shape.specs.Rows.{AreRowsOf, AreSameBut, DifferAt, IsRowAt};
 ghost use Rattle.riichi_shape.specs.Suits.{AreHandCaps};
 ghost use Rattle.riichi_tiles.specs.declared.meld.Meld.{Meld};
 
-use crate::hand_caps::{HandCaps, hand_caps_of};
+use crate::hand_caps::HandCaps;
 use crate::suit_of_hand::suit_row_of;
 use riichi_rows::{RowSource, SuitRow};
-use riichi_tiles::{BySuit, Counts, Kind, Melds, Suit};
+use riichi_tiles::{BySuit, Counts, Kind, Suit};
 
 /// The row of each suit. They are kept while tiles are added and removed: a tile changes one.
 pub(crate) type HandRows = BySuit<SuitRow>;
 
 /// The rows of a hand.
-pub(crate) fn hand_rows_of<R: RowSource>(source: &mut R, hand: &Counts, melds: &Melds) -> HandRows
-    requires { (k : ℕ) → k < 34 → tiles melds.now k ≤ 4 }
-    ensures rows { AreRowsOf hand.now melds.now result }
+pub(crate) fn hand_rows_of<R: RowSource>(source: &mut R, hand: &Counts, caps: &HandCaps) -> HandRows
+    ensures rows { (melds : List Meld) → AreHandCaps melds caps.now
+        → AreRowsOf hand.now melds result }
     ensures stays { source.new ≡ source.old }
 {
-    let caps = hand_caps_of(melds);
     BySuit {
-        characters: suit_row_of(source, hand, &caps, Suit::Characters),
-        circles: suit_row_of(source, hand, &caps, Suit::Circles),
-        bamboos: suit_row_of(source, hand, &caps, Suit::Bamboos),
-        honours: suit_row_of(source, hand, &caps, Suit::Honours),
+        characters: suit_row_of(source, hand, caps, Suit::Characters),
+        circles: suit_row_of(source, hand, caps, Suit::Circles),
+        bamboos: suit_row_of(source, hand, caps, Suit::Bamboos),
+        honours: suit_row_of(source, hand, caps, Suit::Honours),
     }
 }
 

@@ -6,13 +6,11 @@ ghost use Rattle.riichi_shape.specs.Discards as spec;
 ghost use Rattle.riichi_shape.specs.EveryWinning.{distance_of};
 ghost use Rattle.riichi_shape.specs.KeptDiscards.{IsKept, IsToldOf};
 ghost use Rattle.riichi_shape.specs.Rows.{AreFormsOf};
-ghost use Rattle.riichi_shape.specs.Suits.{AreHandCaps};
 
 use crate::acceptance::{accepted_by, live_copies};
 use crate::discard_list::DiscardList;
 use crate::discard_order::DiscardOrder;
 use crate::distance::distance_with;
-use crate::hand_caps::{HandCaps, hand_caps_of};
 use crate::hand_forms::HandForms;
 use crate::hand_rows::row_at;
 use crate::kept_discard::KeptDiscard;
@@ -25,7 +23,6 @@ use riichi_tiles::{Counts, Kind, Melds};
 fn discard_of<R: RowSource>(
     source: &mut R,
     forms: &HandForms,
-    caps: &HandCaps,
     least: u8,
     hand: &Counts,
     melds: &Melds,
@@ -35,7 +32,6 @@ fn discard_of<R: RowSource>(
     requires melded { (k : ℕ) → k < 34 → tiles melds.now k ≤ 4 }
     requires forms { AreFormsOf hand.now melds.now forms.now }
     requires held { 0 < slice_index hand.now kind }
-    requires caps { AreHandCaps melds.now caps.now }
     ensures kept { MatchOption result (spec.distance_without hand.now melds.now kind ≢ least)
         (λ kept. (spec.distance_without hand.now melds.now kind ≡ least)
         × IsToldOf hand.now melds.now kind live.now.copies kept × IsKept live.now.copies kept) }
@@ -43,7 +39,7 @@ fn discard_of<R: RowSource>(
 {
     let mut rest = *hand;
     rest.remove(kind);
-    let row = row_at(source, &rest, caps, kind);
+    let row = row_at(source, &rest, &forms.caps, kind);
     let floor = forms.special.distance();
     if distance_with(&forms.joins, floor, kind, &row, &rest, melds) != least {
         return None;
@@ -70,14 +66,13 @@ pub(crate) fn discards_by<R: RowSource>(
     ensures discards { result ≡ spec.discards_of hand.now melds.now seen.now }
     ensures stays { source.new ≡ source.old }
 {
-    let caps = hand_caps_of(melds);
     let least = distance.max(1);
     let live = live_copies(hand, melds, seen);
     let mut order = DiscardOrder::new();
     for number in (0..34u8).rev() {
         let kind = Kind::at(number);
         if hand.get(kind) > 0 {
-            if let Some(kept) = discard_of(source, forms, &caps, least, hand, melds, &live, kind) {
+            if let Some(kept) = discard_of(source, forms, least, hand, melds, &live, kind) {
                 order.insert(kept);
             }
         }

@@ -8,7 +8,7 @@
 //! waits, and so their points, may differ.
 //!
 //! [`is_win`] says whether tiles have a reading, which does not depend on the tile that wins.
-//! [`waits`] are the kinds that would complete a hand, and [`waits_text`] writes them.
+//! [`waits`] are the kinds that would complete a hand, and [`push_waits`] writes them.
 //!
 //! No call takes memory. [`laws`] has a law of the definitions: a collection of sets stands in order
 //! in one list alone, so that equal readings are equal values.
@@ -18,7 +18,7 @@
 //! // The fourth 9m completes the triplet 999m, or the run 789m.
 //! Readings::new(&tiles, &Melds::new(), Kind::at(8)).count();  // 2
 //! let hand = HandRecord::new(read_counts(b"1112345678999m")?, Melds::new())?;
-//! waits_text(waits(&hand)).as_str();                          // "waits 123456789m"
+//! push_waits(&mut text, waits(&hand));                         // "waits 123456789m"
 //! ```
 #![tactic(auto)]
 
@@ -43,5 +43,5 @@ pub use reading::Reading;
 pub use readings::Readings;
 pub use riichi_tiles::Block;
 pub use sets::Sets;
-pub use waiting::{waits, waits_text};
+pub use waiting::{MOST_WAITS, push_waits, waits};
 pub use winning::is_win;

@@ -1,5 +1,6 @@
 //! The kinds that a hand waits for.
-ghost use Rattle.std.specs.Prelude.{◌≡◌, ◌↔◌, ◌<◌, ◌≤◌, ℕ, length};
+ghost use Rattle.std.specs.Prelude.{◌≡◌, ◌↔◌, ◌<◌, ◌≤◌, ◌+◌, ◌++◌, ℕ, length};
+ghost use Rattle.arrayvec.specs.ArrayString.{array_string_len};
 ghost use Rattle.riichi_tiles.specs.HeldKinds.{IsMarked};
 ghost use Rattle.riichi_hand.specs.Hand.{copies_held};
 ghost use Rattle.riichi_split.specs.Waits as spec;
@@ -9,6 +10,9 @@ use crate::standard::standard_waits;
 use arrayvec::ArrayString;
 use riichi_hand::HandRecord;
 use riichi_tiles::{Counts, Kind, KindSet, Melds, write_kinds};
+
+/// The bytes of the longest text of waits.
+pub const MOST_WAITS: usize = "waits ".len() + 40;
 
 /// The kinds of which hand and melds hold fewer than four, and which complete the hand.
 pub fn waits(hand: &HandRecord) -> KindSet
@@ -41,16 +45,16 @@ fn with_tiles_left(kinds: &KindSet, tiles: &Counts, melds: &Melds) -> KindSet
     left
 }
 
-/// The text of some waits: `waits` and their kinds, `waits -` where there are none.
-pub fn waits_text(waits: KindSet) -> ArrayString<48>
-    ensures { result.bytes ≡ spec.waits_text waits }
+/// Writes some waits behind a text: `waits` and their kinds, `waits -` where there are none.
+pub fn push_waits<const ROOM: usize>(text: &mut ArrayString<ROOM>, waits: KindSet)
+    requires { array_string_len text.old + MOST_WAITS ≤ ROOM }
+    ensures bytes { text.new.bytes ≡ text.old.bytes ++ spec.waits_text waits }
+    ensures len { array_string_len text.new ≤ array_string_len text.old + MOST_WAITS }
 {
-    let mut text = ArrayString::new();
     text.push_str("waits ");
     if waits.is_empty() {
         text.push_str("-");
     } else {
         text.push_str(write_kinds(waits).as_str());
     }
-    text
 }

@@ -1,4 +1,4 @@
-//! The word of a line at which a fault stands. A place is the text of the line from there on.
+//! The word and the key of a line at which a fault stands. A place is the text of the line from there on.
 ghost use Rattle.std.specs.Prelude.{◌≡◌, ◌≤◌, length, option_map, count_by, drop};
 ghost use Rattle.riichi_tiles.specs.Notation.{is_digit};
 ghost use Rattle.riichi_hand.specs.Entries.{first_item};
@@ -6,9 +6,11 @@ ghost use Rattle.riichi_hand.specs.Parts.{parts_of};
 ghost use Rattle.riichi_hand.specs.Words.{words_of, from_words};
 ghost use Rattle.riichi_hand.specs.Places as spec;
 ghost use Rattle.riichi_hand.specs.Places.{entry_from};
+ghost use Rattle.riichi_hand.specs.Refusals.{key_at, missing_key};
 ghost use Rattle.riichi_hand.specs.declared.fault.LineFault.TheVariants.{Line};
 
-use super::cuts::{cut_word, next_word, without_spaces};
+use super::cuts::{cut_word, next_word, without_spaces, word_of};
+use super::key::Key;
 use crate::fault::{LineCode, LineFault, TextName};
 use riichi_tiles::is_digit;
 
@@ -28,6 +30,37 @@ pub(crate) fn fault_from<'a>(
     }
 }
 
+/// The key at which the fault of a line stands, whose word begins here.
+#[tactic(auto, unfolding(crate::specs::Refusals::key_at))]
+pub(crate) fn key_at(fault: &LineFault, line: &[u8], from: Option<&[u8]>) -> Option<Key>
+    requires { option_map (λ from. from.now) from ≡ spec.fault_from fault.now line.now }
+    ensures { result ≡ key_at fault.now line.now }
+{
+    match fault {
+        LineFault::Line(LineCode::H6) => missing_key(line),
+        LineFault::Line(_) => Key::of_word(word_of(from?)),
+        LineFault::Notation(name, _) => name.key(),
+    }
+}
+
+/// The first key that a win must have and that no word gives.
+#[tactic(auto, unfolding(crate::specs::Refusals::missing_key))]
+fn missing_key(line: &[u8]) -> Option<Key>
+    ensures { result ≡ missing_key line.now }
+{
+    if from_key(Key::On, 0, line).is_none() {
+        Some(Key::On)
+    } else if from_key(Key::By, 0, line).is_none() {
+        Some(Key::By)
+    } else if from_key(Key::Seat, 0, line).is_none() {
+        Some(Key::Seat)
+    } else if from_key(Key::Round, 0, line).is_none() {
+        Some(Key::Round)
+    } else {
+        None
+    }
+}
+
 #[tactic(auto, unfolding(crate::specs::Places::code_from))]
 fn code_from<'a>(code: LineCode, line: &'a [u8], entry: Option<&'a [u8]>) -> Option<&'a [u8]>
     requires { let job = (parts_of (words_of line.now)).job in
@@ -39,12 +72,14 @@ fn code_from<'a>(code: LineCode, line: &'a [u8], entry: Option<&'a [u8]>) -> Opt
         LineCode::H2 => first_from(line),
         LineCode::H3 => hand_from(line),
         LineCode::H4 | LineCode::H5 => entry,
-        LineCode::H7 => from_with(b"open=", 0, line),
+        LineCode::H7 => from_key(Key::Open, 0, line),
         LineCode::H8 => wrong_number(line),
-        LineCode::H10 => from_with(b"riichi=", 0, line),
-        LineCode::H11 => or_other(from_with(b"ura=", 0, line), from_with(b"flags=", 0, line)),
-        LineCode::H12 | LineCode::H13 | LineCode::H14 | LineCode::H15 => from_with(
-            b"flags=", 0, line,
+        LineCode::H10 => from_key(Key::Riichi, 0, line),
+        LineCode::H11 => or_other(from_key(Key::Ura, 0, line), from_key(Key::Flags, 0, line)),
+        LineCode::H12 | LineCode::H13 | LineCode::H14 | LineCode::H15 => from_key(
+            Key::Flags,
+            0,
+            line,
         ),
     }
 }
@@ -54,26 +89,9 @@ fn code_from<'a>(code: LineCode, line: &'a [u8], entry: Option<&'a [u8]>) -> Opt
 fn text_from<'a>(name: TextName, line: &'a [u8]) -> Option<&'a [u8]>
     ensures { option_map (λ from. from.now) result ≡ spec.text_from name line.now }
 {
-    match name {
-        TextName::Hand => hand_from(line),
-        TextName::On => from_with(key_of(TextName::On), 0, line),
-        TextName::Dora => from_with(key_of(TextName::Dora), 0, line),
-        TextName::Ura => from_with(key_of(TextName::Ura), 0, line),
-        TextName::Seen => from_with(key_of(TextName::Seen), 0, line),
-    }
-}
-
-/// What stands before a text of tiles in its word.
-pub fn key_of(name: TextName) -> &'static [u8]
-    ensures value { result.now ≡ spec.key_of name }
-    ensures short { length result.now ≤ 5 }
-{
-    match name {
-        TextName::Hand => b"",
-        TextName::On => b"on=",
-        TextName::Dora => b"dora=",
-        TextName::Ura => b"ura=",
-        TextName::Seen => b"seen=",
+    match name.key() {
+        None => hand_from(line),
+        Some(key) => from_key(key, 0, line),
     }
 }
 
@@ -93,14 +111,14 @@ fn hand_from<'a>(line: &'a [u8]) -> Option<&'a [u8]>
     first_from(rest)
 }
 
-/// From the first word on that begins so and has at least so many digits.
-pub fn from_with<'a>(start: &[u8], least: usize, line: &'a [u8]) -> Option<&'a [u8]>
-    ensures { option_map (λ from. from.now) result ≡ spec.from_with start.now least line.now }
+/// From the first word of a key on that has at least so many digits.
+pub fn from_key<'a>(key: Key, least: usize, line: &'a [u8]) -> Option<&'a [u8]>
+    ensures { option_map (λ from. from.now) result ≡ spec.from_key key least line.now }
 {
     let mut from = without_spaces(line);
     while !from.is_empty() {
         let (word, after) = cut_word(from);
-        if begins_with_digits(start, least, word) {
+        if has_digits(key, least, word) {
             return Some(from);
         }
         from = without_spaces(after);
@@ -108,10 +126,13 @@ pub fn from_with<'a>(start: &[u8], least: usize, line: &'a [u8]) -> Option<&'a [
     None
 }
 
-fn begins_with_digits(start: &[u8], least: usize, word: &[u8]) -> bool
-    ensures { result ≡ spec.begins_with_digits start.now least word.now }
+fn has_digits(key: Key, least: usize, word: &[u8]) -> bool
+    ensures { result ≡ spec.has_digits key least word.now }
 {
-    word.starts_with(start) && least <= digits_in(word)
+    match Key::of_word(word) {
+        Some(other) => key == other && least <= digits_in(word),
+        None => false,
+    }
 }
 
 /// How many digits a word has: each is a tile where it spells tiles.
@@ -126,9 +147,9 @@ fn digits_in(word: &[u8]) -> usize
 fn wrong_number<'a>(line: &'a [u8]) -> Option<&'a [u8]>
     ensures { option_map (λ from. from.now) result ≡ spec.wrong_number line.now }
 {
-    let on = from_with(b"on=", 2, line);
-    let dora = from_with(b"dora=", 6, line);
-    let ura = from_with(b"ura=", 6, line);
+    let on = from_key(Key::On, 2, line);
+    let dora = from_key(Key::Dora, 6, line);
+    let ura = from_key(Key::Ura, 6, line);
     or_other(on, or_other(dora, or_other(ura, hand_from(line))))
 }
 

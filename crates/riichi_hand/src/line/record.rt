@@ -3,6 +3,8 @@ ghost use Rattle.std.specs.Prelude.{◌≡◌, ◌≢◌, ◌==◌, [], None, So
 ghost use Rattle.std.specs.List.{list_all};
 ghost use Rattle.riichi_hand.specs.Lines.{outcome_of, is_no_record, has_bad_word};
 ghost use Rattle.riichi_hand.specs.Places.{entry_from, fault_from, place_of};
+ghost use Rattle.riichi_hand.specs.Refusals.{IsRefusalOf};
+ghost use Rattle.riichi_hand.specs.Refusals as spec;
 ghost use Rattle.riichi_hand.specs.Entries.{entries_of, Holds};
 ghost use Rattle.riichi_hand.specs.Parts.{parts_of};
 ghost use Rattle.riichi_hand.specs.Texts.{no_texts};
@@ -12,22 +14,30 @@ ghost use Rattle.riichi_hand.specs.declared.fault.LineFault.TheVariants.{Line};
 ghost use Rattle.riichi_hand.specs.declared.fault.LineCode.TheVariants.{H4, H16};
 
 use super::bytes::MOST_LINE;
-use super::cuts::word_len;
+use super::cuts::{word_len, word_of};
 use super::fields::Fields;
+use super::job_name::JobName;
 use super::jobs::make_job;
+use super::key::Key;
 use super::needed::Needed;
-use super::places::fault_from;
+use super::places::{fault_from, key_at};
 use super::texts::Texts;
 use super::words::Words;
 use crate::fault::{LineCode, LineFault};
 use crate::job::Job;
 use crate::rules::Rules;
 
-/// Why a line is refused: its first fault, and the line from the word on at which it stands, where that is one word.
+/// Why a line is refused, and where.
 #[derive(Clone, Copy, Debug)]
 pub struct Refusal<'a> {
+    /// The line's first fault.
     pub fault: LineFault,
+    /// The line from the word on at which that stands, where it is one word.
     pub from: Option<&'a [u8]>,
+    /// The key at which it stands, or the first that is missing.
+    pub key: Option<Key>,
+    /// The job, where the line's words are read and the first is one.
+    pub job: Option<JobName>,
 }
 
 /// Where a word stands in its line, in bytes.
@@ -37,12 +47,35 @@ pub struct Place {
     pub length: usize,
 }
 
-impl Refusal<'_> {
+impl<'a> Refusal<'a> {
+    /// The refusal of a line with this fault. From which word on that of an entry stands is known.
+    fn of(fault: LineFault, line: &'a [u8], entry: Option<&'a [u8]>) -> Refusal<'a>
+        requires { let job = (parts_of (words_of line.now)).job in
+            option_map (λ from. from.now) entry ≡ entry_from job fault (drop 2 (from_words line.now)) }
+        ensures fault { result.fault ≡ fault }
+        ensures refusal { IsRefusalOf line.now result }
+    {
+        let from = fault_from(&fault, line, entry);
+        Refusal {
+            fault,
+            from,
+            key: key_at(&fault, line, from),
+            job: job_at(&fault, line),
+        }
+    }
+
+    /// The word at fault.
+    pub fn word(&self) -> Option<&'a [u8]>
+        ensures { option_map (λ word. word.now) result
+            ≡ option_map word_of (option_map (λ from. from.now) self.now.from) }
+    {
+        Some(word_of(self.from?))
+    }
+
     /// Where the word at fault stands in the line that was refused.
     #[tactic(auto, using(crate::proofs::PlaceEnds::at_place))]
     pub fn place(&self, line: &[u8]) -> Option<Place>
-        requires { option_map (λ from. from.now) self.now.from
-            ≡ fault_from self.now.fault line.now }
+        requires { IsRefusalOf line.now self.now }
         ensures place { result ≡ place_of self.now.fault line.now }
         ensures word { let from = fault_from self.now.fault line.now in
             MatchOption result (from ≡ None) (λ place.
@@ -59,20 +92,27 @@ impl Refusal<'_> {
     }
 }
 
+/// The job that a line names, where its words are read.
+#[tactic(auto, unfolding(crate::specs::Refusals::job_at))]
+fn job_at(fault: &LineFault, line: &[u8]) -> Option<JobName>
+    ensures { result ≡ spec.job_at fault.now line.now }
+{
+    match fault {
+        LineFault::Line(LineCode::H1) => None,
+        _ => JobName::of_line(line),
+    }
+}
+
 /// The job of a line, as `read_line` reads it, or why it is refused.
 pub fn read_placed<'a>(rules: Rules, line: &'a [u8]) -> Result<Option<Job>, Refusal<'a>>
     ensures { MatchResult result (λ job. outcome_of rules line.now ≡ Ok job)
-        (λ refusal. (outcome_of rules line.now ≡ Err refusal.fault)
-        × (option_map (λ from. from.now) refusal.from ≡ fault_from refusal.fault line.now)) }
+        (λ refusal. (outcome_of rules line.now ≡ Err refusal.fault) × IsRefusalOf line.now refusal) }
 {
     let mut fields = Fields::new();
     let mut texts = Texts::new();
     match read_into(rules, line, &mut fields, &mut texts) {
         Ok(job) => Ok(job),
-        Err(fault) => Err(Refusal {
-            fault,
-            from: fault_from(&fault, line, fields.at_fault),
-        }),
+        Err(fault) => Err(Refusal::of(fault, line, fields.at_fault)),
     }
 }
 

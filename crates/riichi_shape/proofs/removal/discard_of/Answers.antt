@@ -29,7 +29,7 @@ distance_with-requires-clause-floor g c =
     special_without hand c.remove.new.self melds c.args.kind c.distance-floor.result c.remove.ensures.counts.each_kind c.requires.held c.remove.ensures.value (c.distance-floor.ensures hand melds c.requires.forms.special).none_less
 
 pub distance_with-requires-clause-row : goal.distance_with-requires-clause-row
-distance_with-requires-clause-row g c = c.row_at-row.ensures.row c.args.melds.now c.requires.caps
+distance_with-requires-clause-row g c = c.row_at-row.ensures.row c.args.melds.now c.requires.forms.are_caps
 
 pub returns-clause-kept : goal.returns-clause-kept
 returns-clause-kept g c =
