@@ -1,5 +1,5 @@
 //! What a table shows between two deals.
-ghost use Rattle.std.specs.Prelude.{◌≡◌};
+ghost use Rattle.std.specs.Prelude.{◌≡◌, ◌*◌, ◌≤ℤ◌, pos};
 ghost use Rattle.riichi_table.specs.States as spec;
 
 use crate::player::{ByPlayer, Player};
@@ -43,7 +43,15 @@ impl GameState {
         ensures { result ≡ spec.all_points self.now }
     {
         let points = &self.points;
-        let sticks = 1000 * i64::from(self.sticks);
-        sum_of_four(points.first, points.second, points.third, points.fourth) + sticks
+        let held = sum_of_four(points.first, points.second, points.third, points.fourth);
+        held + stick_points(self.sticks)
     }
+}
+
+/// What so many sticks are worth.
+fn stick_points(sticks: u8) -> i64
+    ensures value { result ≡ pos (1000 * sticks) }
+    ensures most { result ≤ℤ pos 255000 }
+{
+    1000 * i64::from(sticks)
 }
