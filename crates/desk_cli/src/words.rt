@@ -117,14 +117,14 @@ fn flag<'a>(alloc: Global, name: &'static str, help: &'static str) -> Arg<'a> {
     option(alloc, name, help).action(ArgAction::SetTrue)
 }
 
-/// The rules of lines that are given no others.
+/// The rules of lines that are given no others. Which they are without the option, `request_of` says.
 fn rules_arg<'a>(alloc: Global) -> Arg<'a> {
     let rules = option(
         alloc,
         "rules",
-        "The rules where the first line sets none: 1, 2, or with changes, as 1+red-fives-ura (see help-rules)",
+        "The rules where the first line sets none: 1 (as without this option), 2, or with changes, as 1+red-fives-ura (see help-rules)",
     );
-    rules.value_name("RULES").default_value("1")
+    rules.value_name("RULES")
 }
 
 fn line_command<'a>(alloc: Global) -> Result<Command<'a>, AllocError> {

@@ -1,7 +1,6 @@
 -- What follows a refusal: the word at fault and what may stand there, a note, and a line that is answered, where one was found.
-use Rattle.std.specs.Prelude.{◌≡◌, ℕ, ◌<◌, ◌≤◌, ◌==◌, ◌+◌, List, [], ◌∷◌, ◌++◌, Bool, true, false, ◌&&◌, Option, None, Some, Result, Ok, IfSome, codes, if◌then◌else◌}
-use Rattle.std.specs.List.{All, list_any}
-use Rattle.riichi_tiles.specs.Notation.{is_digit}
+use Rattle.std.specs.Prelude.{◌≡◌, ℕ, List, [], ◌++◌, Bool, true, false, Option, None, Some, Result, Ok, IfSome, codes}
+use Rattle.std.specs.List.{list_any}
 use Rattle.riichi_hand.specs.declared.fault.LineCode.TheVariants.{H4, H9}
 use Rattle.riichi_hand.specs.declared.fault.LineFault.{LineFault}
 use Rattle.riichi_hand.specs.declared.fault.LineFault.TheVariants.{Line}
@@ -12,6 +11,7 @@ use Rattle.riichi_hand.specs.Rules.{Rules}
 use Rattle.riichi_hand.specs.Lines.{outcome_of, is_other_byte}
 use Rattle.riichi_hand.specs.Places.{fault_from}
 use Rattle.riichi_refusals.specs.Refusal.{refusal_lines}
+use Rattle.riichi_hints.specs.Crowd.{IsCrowdNote, IsNotCrowded}
 use Rattle.riichi_hints.specs.Near.{IsKeyNote}
 
 -- ---- a line that is answered
@@ -24,40 +24,7 @@ is_record outcome = false
 abbrev pub IsAnswered : Rules → List ℕ → Type 0
 IsAnswered rules line = is_record (outcome_of rules line) ≡ true
 
--- ---- the tiles of a line
-
--- the first byte that is no digit, 0 where there is none: a digit is of the suit with the letter behind it
-abbrev pub letter_in : List ℕ → ℕ
-letter_in [] = 0
-letter_in (byte ∷ rest) = if is_digit byte then letter_in rest else byte
-
--- a `0` is a five
-abbrev pub five_if_zero : ℕ → ℕ
-five_if_zero byte = if byte == 48 then 53 else byte
-
-abbrev pub is_tile : ℕ → ℕ → ℕ → List ℕ → Bool
-is_tile digit suit byte rest = is_digit byte && ((five_if_zero byte == digit) && (letter_in rest == suit))
-
--- how many copies of a tile a line has, in all its words
-abbrev pub copies_on_line : ℕ → ℕ → List ℕ → ℕ
-copies_on_line digit suit [] = 0
-copies_on_line digit suit (byte ∷ rest) = (if is_tile digit suit byte rest then 1 else 0) + copies_on_line digit suit rest
-
--- The note begins with a tile of which the line has more than four copies.
-pub record IsCrowdNote (line note : List ℕ) : Type 0 where
-  pub digit : ℕ
-  pub suit : ℕ
-  pub more : List ℕ
-  pub note_is : note ≡ digit ∷ suit ∷ more
-  pub crowded : 4 < copies_on_line digit suit line
-
--- of no digit of a suit with that letter the line has more than four copies
-abbrev pub HasNoneCrowded : ℕ → List ℕ → Type 0
-HasNoneCrowded suit line = (digit : ℕ) → 49 ≤ digit → digit ≤ 57 → copies_on_line digit suit line ≤ 4
-
--- nor of a tile of any suit
-abbrev pub IsNotCrowded : List ℕ → Type 0
-IsNotCrowded line = All (λ suit. HasNoneCrowded suit line) (codes "mpsz")
+-- ---- the note
 
 abbrev pub IsNote : LineFault → List ℕ → List ℕ → Type 0
 IsNote (Line H4) line note = IsKeyNote (fault_from (Line H4) line) note

@@ -1,2 +1,3 @@
 pub mod Hint
 pub mod Near
+pub mod Crowd

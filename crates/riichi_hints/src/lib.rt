@@ -12,6 +12,7 @@
 //! ```
 #![tactic(auto)]
 
+mod crowd;
 mod draft;
 mod hint;
 mod mending;

@@ -2,17 +2,16 @@
 ghost use Rattle.std.specs.Prelude.{◌≡◌, IfNone, IfSome, option_map};
 ghost use Rattle.riichi_hand.specs.Refusals.{IsRefusalOf};
 ghost use Rattle.riichi_hints.specs.Hint as spec;
-ghost use Rattle.riichi_hints.specs.Hint.{IsNote, HasNoNote, IsCrowdNote, IsNotCrowded};
+ghost use Rattle.riichi_hints.specs.Hint.{IsNote, HasNoNote};
 ghost use Rattle.riichi_hints.specs.Near.{IsKeyNote, said_under};
 
+use crate::crowd::crowd_note;
 use crate::mending::wanted_beside;
 use crate::names::{Meaning, nearest_meaning};
-use crate::text::{Part, add_all};
-use crate::tiles::{Tile, copies_in, crowded_tile, last_tile, tile_count};
+use crate::text::{Part, add_all, add_count, add_number};
+use crate::tiles::{copies_in, last_tile, tile_count};
 use crate::words::cut_name;
-use arrayvec::ArrayString;
-use riichi_hand::{JobName, Key, LineCode, LineFault, Refusal, from_key, next_word, word_of};
-use riichi_text::push_number;
+use riichi_hand::{JobName, Key, LineCode, LineFault, Refusal, from_key, word_of};
 
 /// The note on a refused line. That of H9 begins with a tile that the line has more than four times, and is there where a tile
 /// stands so often.
@@ -128,66 +127,4 @@ fn meld_count(line: &[u8]) -> usize {
         Some(from) => word_of(from).iter().filter(|byte| **byte == b':').count(),
         None => 0,
     }
-}
-
-/// The tile of which there are more than four, how many there are, and where.
-fn crowd_note(line: &[u8]) -> Option<Part>
-    ensures note { IfSome result (λ note. IsCrowdNote line.now note.items) }
-    ensures none { IfNone result (IsNotCrowded line.now) }
-{
-    let tile = crowded_tile(line)?;
-    let mut note = Part::new();
-    note.push(tile.digit);
-    note.push(tile.suit);
-    add_all(&mut note, crowd_words(line, tile).as_slice());
-    Some(note)
-}
-
-fn crowd_words(line: &[u8], tile: Tile) -> Part {
-    let mut words = Part::new();
-    add_count(&mut words, " stands ", copies_in(line, tile), "time");
-    let mut mark = ": ";
-    let mut rest = line;
-    while let Some((word, after)) = next_word(rest) {
-        let copies = copies_in(word, tile);
-        if copies > 0 {
-            add_all(&mut words, mark.as_bytes());
-            add_number(&mut words, copies);
-            add_place(&mut words, word);
-            mark = ", ";
-        }
-        rest = after;
-    }
-    words
-}
-
-fn add_place(words: &mut Part, word: &[u8]) {
-    match cut_name(word) {
-        Some((name, _)) => {
-            add_all(words, b" in ");
-            add_all(words, name);
-        }
-        None => add_all(words, b" in the hand"),
-    }
-}
-
-/// Adds a number of things: `no tile`, `1 tile`, `2 tiles`.
-fn add_count(note: &mut Part, before: &str, count: usize, thing: &str) {
-    add_all(note, before.as_bytes());
-    if count == 0 {
-        add_all(note, b"no");
-    } else {
-        add_number(note, count);
-    }
-    add_all(note, b" ");
-    add_all(note, thing.as_bytes());
-    if count > 1 {
-        add_all(note, b"s");
-    }
-}
-
-fn add_number(note: &mut Part, number: usize) {
-    let mut text = ArrayString::<20>::new();
-    push_number(&mut text, number);
-    add_all(note, text.as_str().as_bytes());
 }

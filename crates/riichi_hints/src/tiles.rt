@@ -1,6 +1,6 @@
 //! Texts of tiles, as players write them.
 ghost use Rattle.std.specs.Prelude.{◌≡◌, ◌<◌, IfNone, IfSome};
-ghost use Rattle.riichi_hints.specs.Hint as spec;
+ghost use Rattle.riichi_hints.specs.Crowd as spec;
 
 use crate::text::{Part, add, add_all, last};
 use riichi_tiles::is_digit;

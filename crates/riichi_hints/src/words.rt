@@ -1,5 +1,5 @@
 //! The words of a line, loosely read.
-ghost use Rattle.std.specs.Prelude.{◌≡◌, IfSome};
+ghost use Rattle.std.specs.Prelude.{◌≡◌, ◌+◌, ℕ, None, Some, IfSome, MatchOption, drop, take};
 ghost use Rattle.std.specs.List.{position};
 ghost use Rattle.riichi_hints.specs.Near.{is_mark, before_mark};
 
@@ -114,7 +114,10 @@ impl Draft {
 
 /// The name before the first `=` or `:`, and what comes after it.
 pub(crate) fn cut_name(word: &[u8]) -> Option<(&[u8], &[u8])>
-    ensures { IfSome result (λ cut. cut.0.now ≡ before_mark word.now) }
+    ensures name { IfSome result (λ cut. cut.0.now ≡ before_mark word.now) }
+    ensures cut { MatchOption result (position is_mark word.now ≡ None)
+        (λ cut. (at : ℕ) × (position is_mark word.now ≡ Some at)
+        × (cut.0.now ≡ take at word.now) × (cut.1.now ≡ drop (at + 1) word.now)) }
 {
     let at = mark_at(word)?;
     Some((&word[..at], &word[at + 1..]))

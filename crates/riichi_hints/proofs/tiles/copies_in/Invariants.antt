@@ -1,5 +1,5 @@
 use Rattle.std.proofs.Common.{◌≡◌, ◌≤◌, ◌+◌, length, drop}
-use Rattle.riichi_hints.specs.Hint as spec
+use Rattle.riichi_hints.specs.Crowd as spec
 use Rattle.riichi_hints.proofs.tiles.copies_in.Given as goal
 
 -- the copies in what was read, from the end on

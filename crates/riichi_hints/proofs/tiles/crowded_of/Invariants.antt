@@ -1,5 +1,5 @@
 use Rattle.std.proofs.Common.{ℕ, ◌<◌, ◌≤◌}
-use Rattle.riichi_hints.specs.Hint.{copies_on_line}
+use Rattle.riichi_hints.specs.Crowd.{copies_on_line}
 use Rattle.riichi_hints.proofs.tiles.crowded_of.Given as goal
 
 -- none of the digits so far

@@ -1,6 +1,6 @@
 use Rattle.std.proofs.Common.{ℕ, ◌≤◌, List, [], ◌∷◌, subst, sym, arith}
 use Rattle.std.proofs.lemmas.List.{get_or_default}
-use Rattle.riichi_hints.specs.Hint.{copies_on_line}
+use Rattle.riichi_hints.specs.Crowd.{copies_on_line}
 use Rattle.riichi_hints.proofs.tiles.crowded_tile.Goals as goal
 
 suits : List ℕ

@@ -1,5 +1,5 @@
 use Rattle.std.proofs.Common.{ℕ, ◌<◌, get_or}
-use Rattle.riichi_hints.specs.Hint.{HasNoneCrowded}
+use Rattle.riichi_hints.specs.Crowd.{HasNoneCrowded}
 use Rattle.riichi_hints.proofs.tiles.crowded_tile.Given as goal
 
 -- none of the suits so far
