@@ -1,6 +1,6 @@
 -- The pieces of a text that many threads answer.
-use Rattle.std.specs.Prelude.{◌≡◌, ℕ, ◌*◌, ◌+◌, ◌-◌, min, List, ◌++◌, map, length, take, drop, MatchOption}
-use Rattle.std.specs.List.{All, concat}
+use Rattle.std.specs.Prelude.{◌≡◌, ◌≢◌, ◌⊎◌, ℕ, ◌*◌, ◌+◌, ◌-◌, min, List, None, ◌++◌, map, length, take, drop, MatchOption}
+use Rattle.std.specs.List.{All, Any, concat}
 use Rattle.riichi_hand.specs.Rules.{Rules}
 use Rattle.desk_lines.specs.declared.report.DeskReport.{DeskReport}
 use Rattle.desk_lines.specs.LineAnswer.{line_kind}
@@ -34,6 +34,11 @@ HasAnswers May rules text size piece =
 -- those of each piece that a thread took
 abbrev pub HaveAnswers : AnswerKind → Rules → List ℕ → ℕ → Share → Type 0
 HaveAnswers May rules text size share = All (HasAnswers May rules text size) share.pieces.items
+
+-- A thread has nothing for the piece of a number: it did not take it, or had no memory for its answers.
+abbrev pub IsWithout : ℕ → Share → Type 0
+IsWithout number share =
+    All (λ piece. piece.number ≢ number) share.pieces.items ⊎ Any (λ piece. (piece.number ≡ number) × (piece.report ≡ None)) share.pieces.items
 
 -- the answers in these rooms, one behind another
 abbrev pub answers_in_rooms : Rooms → List ℕ

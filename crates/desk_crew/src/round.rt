@@ -1,7 +1,7 @@
 //! One round: a text whose lines are answered by many threads.
-ghost use Rattle.std.specs.Prelude.{◌≡◌, ◌+◌, ◌<◌, ◌^◌, length, IfSome};
+ghost use Rattle.std.specs.Prelude.{◌≡◌, ◌+◌, ◌<◌, ◌^◌, length, IfNone, IfSome};
 ghost use Rattle.std.specs.List.{All};
-ghost use Rattle.desk_crew.specs.Pieces.{AreCounted, HaveAnswers, edge, lines_between};
+ghost use Rattle.desk_crew.specs.Pieces.{AreCounted, HaveAnswers, IsWithout, edge, lines_between};
 ghost use denote.Param.Send.{IsSync};
 
 use crate::share::Share;
@@ -59,7 +59,8 @@ pub(crate) fn answer_beside<A: Responder + Send + Sync, H: Threads + Sync, G: Fn
     told
 }
 
-/// Gives the answers to the piece of a number away for a room, and its report, from whatever share has it.
+/// Gives the answers to the piece of a number away for a room, and its report, from whatever share has it; none where no share
+/// had memory for it.
 pub(crate) fn take_piece<A: Responder>(
     rules: Rules,
     text: &[u8],
@@ -72,6 +73,7 @@ pub(crate) fn take_piece<A: Responder>(
     ensures taken { IfSome result (AreCounted A.may_tell rules
         (lines_between text.now (edge text.now size number) (edge text.now size (number + 1)))
         room.new.items) }
+    ensures none { IfNone result (All (IsWithout number) shares.old) }
     ensures left { All (HaveAnswers A.may_tell rules text.now size) shares.new }
 {
     for place in 0..shares.len() {

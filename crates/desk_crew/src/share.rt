@@ -1,6 +1,6 @@
 //! What one thread works with.
-ghost use Rattle.std.specs.Prelude.{◌≡◌, ◌+◌, ◌<◌, ◌^◌, length, IfSome};
-ghost use Rattle.desk_crew.specs.Pieces.{AreCounted, HaveAnswers, edge, lines_between};
+ghost use Rattle.std.specs.Prelude.{◌≡◌, ◌+◌, ◌<◌, ◌^◌, length, IfNone, IfSome};
+ghost use Rattle.desk_crew.specs.Pieces.{AreCounted, HaveAnswers, IsWithout, edge, lines_between};
 
 use crate::piece::{PIECES, Piece};
 use desk_lines::{DeskReport, Responder, SuitMemo};
@@ -58,6 +58,7 @@ impl Share {
         ensures taken { IfSome result (AreCounted A.may_tell rules
             (lines_between text.now (edge text.now size number) (edge text.now size (number + 1)))
             room.new.items) }
+        ensures none { IfNone result (IsWithout number self.old) }
         ensures left { HaveAnswers A.may_tell rules text.now size self.new }
     {
         for place in 0..self.pieces.len() {
