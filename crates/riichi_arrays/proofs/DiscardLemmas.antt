@@ -13,7 +13,7 @@ use Rattle.riichi_tiles.specs.Melds.{every_kind}
 use Rattle.riichi_tiles.proofs.KindSets.{none_at, past_at, same_members, same_set, where_at, where_low, with_kind_other, with_kind_same}
 use Rattle.riichi_arrays.specs.Columns.{accepted_after, discards_row, has_discard}
 use Rattle.riichi_arrays.specs.Hands.{no_tiles}
-use Rattle.riichi_arrays.specs.declared.removal.DiscardsRow.{DiscardsRow}
+use Rattle.riichi_arrays.specs.declared.discard_columns.DiscardsRow.{DiscardsRow}
 use Rattle.riichi_arrays.proofs.ColumnLemmas.{put_kind}
 
 pub same_row : {shanten s : ℤ} {kinds k : ℕ} {accepts a live l : List ℕ} → shanten ≡ s → kinds ≡ k → accepts ≡ a → live ≡ l →

@@ -7,7 +7,7 @@ use Rattle.riichi_shape.proofs.LiveLemmas.{are_live, copies_told}
 use Rattle.riichi_shape.specs.declared.accepts.Accepts.{Accepts}
 use Rattle.riichi_shape.specs.declared.accepts.Accepts.TheVariants.{Thirteen}
 use Rattle.riichi_arrays.specs.Columns.{shape_told}
-use Rattle.riichi_arrays.specs.declared.acceptance.ShapeRow.{ShapeRow}
+use Rattle.riichi_arrays.specs.declared.shape_columns.ShapeRow.{ShapeRow}
 use Rattle.riichi_tiles.specs.HeldKinds.{AreHeldOf}
 use Rattle.riichi_tiles.proofs.KindSets.{same_members, where_at, where_low}
 

@@ -2,8 +2,9 @@
 use Rattle.std.specs.Prelude.{◌≡◌, ℕ, Bool, ◌-◌, ◌^◌, ◌==◌, if◌then◌else◌, ℤ, negsuc, List, [], ◌∷◌, ◌++◌, Option, Some, None, drop, map, slice_index_or}
 use Rattle.std.specs.List.{list_any, range_with_len}
 use Rattle.riichi_arrays.specs.Hands.{hand_in, no_melds, no_tiles, shape_in}
-use Rattle.riichi_arrays.specs.declared.acceptance.ShapeRow.{ShapeRow}
-use Rattle.riichi_arrays.specs.declared.removal.DiscardsRow.{DiscardsRow}
+use Rattle.riichi_arrays.specs.declared.shape_columns.ShapeRow.{ShapeRow}
+use Rattle.riichi_arrays.specs.declared.discard_columns.DiscardsRow.{DiscardsRow}
+use Rattle.riichi_arrays.specs.declared.hands.Hands.{Hands}
 use Rattle.riichi_hand.specs.HandParts.{HandParts, ShapeParts}
 use Rattle.riichi_shape.specs.Answer.{shape_answer_of}
 use Rattle.riichi_shape.specs.EveryWinning.{shanten_of}
@@ -26,6 +27,13 @@ shape_at counts melds seen row = shape_in (slice_index_or counts row no_tiles) (
 
 abbrev pub hand_at : List (List ℕ) → List (List ℕ) → ℕ → Option HandParts
 hand_at counts melds row = hand_in (slice_index_or counts row no_tiles) (slice_index_or melds row no_melds)
+
+-- the same of many hands that stand together
+abbrev pub shape_of_row : Hands → ℕ → Option ShapeParts
+shape_of_row hands row = shape_at hands.counts.now hands.melds.now hands.seen.now row
+
+abbrev pub hand_of_row : Hands → ℕ → Option HandParts
+hand_of_row hands row = hand_at hands.counts.now hands.melds.now row
 
 -- ---- the shanten
 

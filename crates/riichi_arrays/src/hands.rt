@@ -1,11 +1,42 @@
-//! The hand of a row.
+//! Many hands, and the hand of a row.
 ghost use Rattle.std.specs.Prelude.{◌≡◌, slice_index_or};
-ghost use Rattle.riichi_arrays.specs.Columns.{hand_at, shape_at};
 ghost use Rattle.riichi_arrays.specs.Hands as spec;
 ghost use Rattle.riichi_arrays.specs.Hands.{no_melds, no_tiles};
 
 use riichi_hand::{HandRecord, ShapeRecord};
 use riichi_tiles::{Counts, Kind, Meld, Melds};
+
+/// Many hands, each a row: its counts, its melds and the tiles that are seen elsewhere. Rows of melds or of seen tiles that aren't
+/// there stand for none.
+#[derive(Clone, Copy)]
+pub struct Hands<'a> {
+    pub counts: &'a [[u8; 34]],
+    pub melds: &'a [[u8; 4]],
+    pub seen: &'a [[u8; 34]],
+}
+
+impl Hands<'_> {
+    ghost use Rattle.riichi_arrays.specs.Columns.{hand_of_row, shape_of_row};
+
+    /// The hand of thirteen or fourteen tiles that stands in a row.
+    pub(crate) fn shape_at(&self, row: usize) -> Option<ShapeRecord>
+        ensures { result ≡ shape_of_row self.now row }
+    {
+        let tiles = tiles_at(self.counts, row)?;
+        let melds = melds_at(self.melds, row)?;
+        let seen = tiles_at(self.seen, row)?;
+        ShapeRecord::new(tiles, melds, seen).ok()
+    }
+
+    /// The hand of thirteen tiles that stands in a row.
+    pub(crate) fn hand_at(&self, row: usize) -> Option<HandRecord>
+        ensures { result ≡ hand_of_row self.now row }
+    {
+        let tiles = tiles_at(self.counts, row)?;
+        let melds = melds_at(self.melds, row)?;
+        HandRecord::new(tiles, melds).ok()
+    }
+}
 
 /// The counts of a row, none where one is above four.
 pub fn counts_in(row: &[u8; 34]) -> Option<Counts>
@@ -70,28 +101,4 @@ fn tiles_at(rows: &[[u8; 34]], row: usize) -> Option<Counts>
     } else {
         Some(Counts::new())
     }
-}
-
-/// The hand of thirteen or fourteen tiles that stands in a row.
-pub(crate) fn shape_at(
-    counts: &[[u8; 34]],
-    melds: &[[u8; 4]],
-    seen: &[[u8; 34]],
-    row: usize,
-) -> Option<ShapeRecord>
-    ensures { result ≡ shape_at counts.now melds.now seen.now row }
-{
-    let tiles = tiles_at(counts, row)?;
-    let melds = melds_at(melds, row)?;
-    let seen = tiles_at(seen, row)?;
-    ShapeRecord::new(tiles, melds, seen).ok()
-}
-
-/// The hand of thirteen tiles that stands in a row.
-pub(crate) fn hand_at(counts: &[[u8; 34]], melds: &[[u8; 4]], row: usize) -> Option<HandRecord>
-    ensures { result ≡ hand_at counts.now melds.now row }
-{
-    let tiles = tiles_at(counts, row)?;
-    let melds = melds_at(melds, row)?;
-    HandRecord::new(tiles, melds).ok()
 }

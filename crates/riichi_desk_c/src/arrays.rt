@@ -2,7 +2,7 @@
 ghost use Rattle.std.specs.Prelude.{◌≡◌, ◌≤◌, [], length, min};
 ghost use Rattle.riichi_arrays.specs.Columns.{IsFilled, hand_at, shanten_by, shape_at, told_discards, told_shape, waits_by};
 
-use riichi_arrays::{discards, shantens, shapes, waits};
+use riichi_arrays::{Hands, discards, shantens, shapes, waits};
 
 /// The shanten of each hand of thirteen or fourteen tiles, -128 of a row that is none: of as many as both `counts` and `shantens`
 /// have rows, which it returns.
@@ -16,7 +16,12 @@ pub extern "C" fn riichi_shantens(
     ensures shanten { IsFilled (λ row. shanten_by (shape_at counts.now melds.now [] row)) result
         shanten.old shanten.new }
 {
-    shantens(counts, melds, shanten)
+    let hands = Hands {
+        counts,
+        melds,
+        seen: &[],
+    };
+    shantens(&hands, shanten)
 }
 
 /// Of each hand of thirteen tiles its shanten, the kinds that it accepts, a bit for each, and their live copies: of as many as
@@ -40,7 +45,12 @@ pub extern "C" fn riichi_shapes(
     ensures live { IsFilled (λ row. (told_shape counts.now melds.now seen.now row).live)
         result live.old live.new }
 {
-    shapes(counts, melds, seen, shanten, accepts, live)
+    let hands = Hands {
+        counts,
+        melds,
+        seen,
+    };
+    shapes(&hands, shanten, accepts, live)
 }
 
 /// Of each hand of fourteen tiles its shanten and the kinds whose discard leaves the least, a bit for each; and for each of these
@@ -68,7 +78,12 @@ pub extern "C" fn riichi_discards(
     ensures live { IsFilled (λ row. (told_discards counts.now melds.now seen.now row).live)
         result live.old live.new }
 {
-    discards(counts, melds, seen, shanten, kinds, accepts, live)
+    let hands = Hands {
+        counts,
+        melds,
+        seen,
+    };
+    discards(&hands, shanten, kinds, accepts, live)
 }
 
 /// The kinds that each hand of thirteen tiles waits for, a bit for each, all bits of a row that is none: of as many as both
@@ -83,5 +98,10 @@ pub extern "C" fn riichi_waits_of(
     ensures kinds { IsFilled (λ row. waits_by (hand_at counts.now melds.now row)) result
         kinds.old kinds.new }
 {
-    waits(counts, melds, kinds)
+    let hands = Hands {
+        counts,
+        melds,
+        seen: &[],
+    };
+    waits(&hands, kinds)
 }

@@ -32,7 +32,10 @@ pub extern "C" fn riichi_explain(rules: u32, line: &[u8], room: &mut [u8]) -> us
     match read_placed(rules, line) {
         Ok(None) => place(b"", room),
         Ok(Some(job)) => place(job_lines(&job).as_str().as_bytes(), room),
-        Err(refusal) => place(refusal_text(rules, line, &refusal).as_str().as_bytes(), room),
+        Err(refusal) => place(
+            refusal_text(rules, line, &refusal).as_str().as_bytes(),
+            room,
+        ),
     }
 }
 

@@ -1,5 +1,5 @@
 use Rattle.riichi_shape.proofs.ShapeFacts.{melds_few}
-use Rattle.riichi_arrays.proofs.distance.shanten_in.Goals as goal
+use Rattle.riichi_arrays.proofs.shanten_column.shanten_in.Goals as goal
 
 pub shanten_with-requires : goal.shanten_with-requires
 shanten_with-requires g c = rw c.melds.ensures (melds_few c.in-Some.hand c.tiles.ensures.shape)

@@ -1,11 +1,11 @@
 //! The discards of many hands of fourteen tiles.
-ghost use Rattle.std.specs.Prelude.{ℕ, ◌≡◌, ◌≤◌, ◌<◌, [], length, min, slice_set};
-ghost use Rattle.riichi_arrays.specs.Columns.{IsFilled, discards_row, discards_told, told_discards};
+ghost use Rattle.std.specs.Prelude.{ℕ, ◌≡◌, ◌<◌, [], length, min, slice_set};
+ghost use Rattle.riichi_arrays.specs.Columns.{IsFilled, discards_by, discards_row, discards_told, shape_of_row};
 ghost use Rattle.riichi_tiles.specs.HeldKinds.{with_kind};
 
-use crate::distance::NO_HAND;
-use crate::hands::shape_at;
+use crate::hands::Hands;
 use crate::kept_rows::{ROWS, UPPERS};
+use crate::shanten_column::NO_HAND;
 use riichi_shape::{
     Accepts, DiscardList, FreshRows, KeptRow, KeptUpper, LentMemo, RowSource, ShapeAnswer,
     ShortDiscard, shape_with,
@@ -82,17 +82,11 @@ fn discards_told(answer: &ShapeAnswer) -> DiscardsRow
     }
 }
 
-fn row_of<R: RowSource>(
-    source: &mut R,
-    counts: &[[u8; 34]],
-    melds: &[[u8; 4]],
-    seen: &[[u8; 34]],
-    row: usize,
-) -> DiscardsRow
-    ensures discards { result ≡ told_discards counts.now melds.now seen.now row }
+fn row_of<R: RowSource>(source: &mut R, hands: &Hands<'_>, row: usize) -> DiscardsRow
+    ensures discards { result ≡ discards_by (shape_of_row hands.now row) }
     ensures stays { source.new ≡ source.old }
 {
-    match shape_at(counts, melds, seen, row) {
+    match hands.shape_at(row) {
         Some(hand) => discards_told(&shape_with(source, &hand)),
         None => DiscardsRow::none(NO_HAND),
     }
@@ -100,30 +94,28 @@ fn row_of<R: RowSource>(
 
 fn fill_discards<R: RowSource>(
     source: &mut R,
-    counts: &[[u8; 34]],
-    melds: &[[u8; 4]],
-    seen: &[[u8; 34]],
+    hands: &Hands<'_>,
     shantens: &mut [i8],
     kinds: &mut [u64],
     accepts: &mut [[u64; 34]],
     live: &mut [[u8; 34]],
-    rows: usize,
-)
-    requires shantens { rows ≤ length shantens.old }
-    requires kinds { rows ≤ length kinds.old }
-    requires accepts { rows ≤ length accepts.old }
-    requires live { rows ≤ length live.old }
-    ensures shantens { IsFilled (λ row. (told_discards counts.now melds.now seen.now row).shanten)
-        rows shantens.old shantens.new }
-    ensures kinds { IsFilled (λ row. (told_discards counts.now melds.now seen.now row).kinds)
-        rows kinds.old kinds.new }
-    ensures accepts { IsFilled (λ row. (told_discards counts.now melds.now seen.now row).accepts)
-        rows accepts.old accepts.new }
-    ensures live { IsFilled (λ row. (told_discards counts.now melds.now seen.now row).live)
-        rows live.old live.new }
+) -> usize
+    ensures rows { result
+        ≡ min (length hands.now.counts.now) (min (length shantens.old)
+        (min (length kinds.old) (min (length accepts.old) (length live.old)))) }
+    ensures shantens { IsFilled (λ row. (discards_by (shape_of_row hands.now row)).shanten) result
+        shantens.old shantens.new }
+    ensures kinds { IsFilled (λ row. (discards_by (shape_of_row hands.now row)).kinds) result
+        kinds.old kinds.new }
+    ensures accepts { IsFilled (λ row. (discards_by (shape_of_row hands.now row)).accepts) result
+        accepts.old accepts.new }
+    ensures live { IsFilled (λ row. (discards_by (shape_of_row hands.now row)).live) result
+        live.old live.new }
 {
+    let places = kinds.len().min(accepts.len().min(live.len()));
+    let rows = hands.counts.len().min(shantens.len().min(places));
     for row in 0..rows {
-        let told = row_of(source, counts, melds, seen, row);
+        let told = row_of(source, hands, row);
         let accepted = told.accepts;
         let copies = told.live;
         shantens[row] = told.shanten;
@@ -131,81 +123,61 @@ fn fill_discards<R: RowSource>(
         accepts[row] = accepted;
         live[row] = copies;
     }
+    rows
 }
 
 #[inline(never)]
 fn fill_many(
-    counts: &[[u8; 34]],
-    melds: &[[u8; 4]],
-    seen: &[[u8; 34]],
-    shantens: &mut [i8],
-    kinds: &mut [u64],
-    accepts: &mut [[u64; 34]],
-    live: &mut [[u8; 34]],
-    rows: usize,
-)
-    requires shantens { rows ≤ length shantens.old }
-    requires kinds { rows ≤ length kinds.old }
-    requires accepts { rows ≤ length accepts.old }
-    requires live { rows ≤ length live.old }
-    ensures shantens { IsFilled (λ row. (told_discards counts.now melds.now seen.now row).shanten)
-        rows shantens.old shantens.new }
-    ensures kinds { IsFilled (λ row. (told_discards counts.now melds.now seen.now row).kinds)
-        rows kinds.old kinds.new }
-    ensures accepts { IsFilled (λ row. (told_discards counts.now melds.now seen.now row).accepts)
-        rows accepts.old accepts.new }
-    ensures live { IsFilled (λ row. (told_discards counts.now melds.now seen.now row).live)
-        rows live.old live.new }
-{
-    let mut rows_kept = [KeptRow::of_nothing(); ROWS];
-    let mut uppers_kept = [KeptUpper::of_nothing(); UPPERS];
-    let mut kept = LentMemo::new(&mut rows_kept, &mut uppers_kept);
-    fill_discards(
-        &mut kept, counts, melds, seen, shantens, kinds, accepts, live, rows,
-    );
-}
-
-/// Of each hand of fourteen tiles its shanten and the kinds whose discard leaves the least, a bit for each; and for each of
-/// these kinds what the rest then accepts, a bit for each kind, and how many copies of those are live in all. A row that is no
-/// such hand has the shanten [`NO_HAND`] and no discards. As many are answered as `counts` and the columns have rows, which it
-/// returns.
-pub fn discards(
-    counts: &[[u8; 34]],
-    melds: &[[u8; 4]],
-    seen: &[[u8; 34]],
+    hands: &Hands<'_>,
     shantens: &mut [i8],
     kinds: &mut [u64],
     accepts: &mut [[u64; 34]],
     live: &mut [[u8; 34]],
 ) -> usize
-    ensures rows { result ≡ min (length counts.now)
-        (min (length shantens.old)
+    ensures rows { result
+        ≡ min (length hands.now.counts.now) (min (length shantens.old)
         (min (length kinds.old) (min (length accepts.old) (length live.old)))) }
-    ensures shantens { IsFilled (λ row. (told_discards counts.now melds.now seen.now row).shanten)
-        result shantens.old shantens.new }
-    ensures kinds { IsFilled (λ row. (told_discards counts.now melds.now seen.now row).kinds)
-        result kinds.old kinds.new }
-    ensures accepts { IsFilled (λ row. (told_discards counts.now melds.now seen.now row).accepts)
-        result accepts.old accepts.new }
-    ensures live { IsFilled (λ row. (told_discards counts.now melds.now seen.now row).live)
-        result live.old live.new }
+    ensures shantens { IsFilled (λ row. (discards_by (shape_of_row hands.now row)).shanten) result
+        shantens.old shantens.new }
+    ensures kinds { IsFilled (λ row. (discards_by (shape_of_row hands.now row)).kinds) result
+        kinds.old kinds.new }
+    ensures accepts { IsFilled (λ row. (discards_by (shape_of_row hands.now row)).accepts) result
+        accepts.old accepts.new }
+    ensures live { IsFilled (λ row. (discards_by (shape_of_row hands.now row)).live) result
+        live.old live.new }
 {
-    let places = kinds.len().min(accepts.len().min(live.len()));
-    let rows = counts.len().min(shantens.len().min(places));
-    if rows < FEW_HANDS {
-        fill_discards(
-            &mut FreshRows,
-            counts,
-            melds,
-            seen,
-            shantens,
-            kinds,
-            accepts,
-            live,
-            rows,
-        );
+    let mut rows_kept = [KeptRow::of_nothing(); ROWS];
+    let mut uppers_kept = [KeptUpper::of_nothing(); UPPERS];
+    let mut kept = LentMemo::new(&mut rows_kept, &mut uppers_kept);
+    fill_discards(&mut kept, hands, shantens, kinds, accepts, live)
+}
+
+/// Of each hand of fourteen tiles its shanten and the kinds whose discard leaves the least, a bit for each; and for each of
+/// these kinds what the rest then accepts, a bit for each kind, and how many copies of those are live in all. A row that is no
+/// such hand has the shanten [`NO_HAND`] and no discards. As many are answered as there are hands and places in the columns,
+/// which it returns.
+pub fn discards(
+    hands: &Hands<'_>,
+    shantens: &mut [i8],
+    kinds: &mut [u64],
+    accepts: &mut [[u64; 34]],
+    live: &mut [[u8; 34]],
+) -> usize
+    ensures rows { result
+        ≡ min (length hands.now.counts.now) (min (length shantens.old)
+        (min (length kinds.old) (min (length accepts.old) (length live.old)))) }
+    ensures shantens { IsFilled (λ row. (discards_by (shape_of_row hands.now row)).shanten) result
+        shantens.old shantens.new }
+    ensures kinds { IsFilled (λ row. (discards_by (shape_of_row hands.now row)).kinds) result
+        kinds.old kinds.new }
+    ensures accepts { IsFilled (λ row. (discards_by (shape_of_row hands.now row)).accepts) result
+        accepts.old accepts.new }
+    ensures live { IsFilled (λ row. (discards_by (shape_of_row hands.now row)).live) result
+        live.old live.new }
+{
+    if hands.counts.len() < FEW_HANDS {
+        fill_discards(&mut FreshRows, hands, shantens, kinds, accepts, live)
     } else {
-        fill_many(counts, melds, seen, shantens, kinds, accepts, live, rows);
+        fill_many(hands, shantens, kinds, accepts, live)
     }
-    rows
 }

@@ -1,7 +1,7 @@
 use Rattle.std.proofs.Common.{◌≡◌, to_z, of_z, rules}
 use Rattle.std.proofs.Common as width
 use Rattle.riichi_arrays.proofs.DiscardLemmas.{none_told}
-use Rattle.riichi_arrays.proofs.removal.DiscardsRow.none.Goals as goal
+use Rattle.riichi_arrays.proofs.discard_columns.DiscardsRow.none.Goals as goal
 
 pub returns : goal.returns
 returns c =

@@ -1,6 +1,6 @@
 use Rattle.std.proofs.Common.{◌≡◌, ◌≤◌, length, drop}
 use Rattle.riichi_arrays.specs.Columns.{discards_row}
-use Rattle.riichi_arrays.proofs.removal.discards_row.Given as goal
+use Rattle.riichi_arrays.proofs.discard_columns.discards_row.Given as goal
 
 -- the discards from a place on
 abbrev pub invariant-loop-place : goal.invariant-loop-place

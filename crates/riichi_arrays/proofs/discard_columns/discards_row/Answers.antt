@@ -1,7 +1,7 @@
 use Rattle.std.proofs.Common.{◌∙◌, to_z, of_z, sym, arith}
 use Rattle.std.proofs.Common as width
 use Rattle.riichi_arrays.proofs.DiscardLemmas.{one_more_short}
-use Rattle.riichi_arrays.proofs.removal.discards_row.Goals as goal
+use Rattle.riichi_arrays.proofs.discard_columns.discards_row.Goals as goal
 
 pub loop-place-preserved : goal.loop-place-preserved
 loop-place-preserved c = record {

@@ -1,9 +1,0 @@
-use Rattle.riichi_arrays.specs.Columns.{IsFilled, shape_at, shape_by}
-use Rattle.riichi_arrays.proofs.acceptance.fill_shapes.Given as goal
-
-abbrev pub invariant-loop-row : goal.invariant-loop-row
-invariant-loop-row g l = record {
-  shantens : IsFilled (λ row. (shape_by (shape_at l.counts l.melds l.seen row)).shanten) l.row l.fn.shantens l.shantens;
-  accepts : IsFilled (λ row. (shape_by (shape_at l.counts l.melds l.seen row)).accepts) l.row l.fn.accepts l.accepts;
-  live : IsFilled (λ row. (shape_by (shape_at l.counts l.melds l.seen row)).live) l.row l.fn.live l.live;
-}
