@@ -1,33 +1,11 @@
 // The proved library for browsers and for Node: import { answer } from "riichi_desk". The modules lie beside this file.
 
+import { calls, FIRST, HOUSE, LINE, memory, MOST_ANSWER, MOST_TEXT, ROOM, RULES, tested, view } from "./module.js";
+
+export { Game, HandRefused, OutcomeRefused, RulesRefused, table } from "./game.js";
+
 const MOST_LINE = 4200; // a line of more than 4096 bytes is refused whatever follows
-const PAGE = 65536;
-const MOST_TEXT = PAGE;
-const MOST_ANSWER = 4 * PAGE - 8;
-
-// A module with nothing but an instruction on vectors. An engine that has none takes the module without them, which is slower.
-const OF_VECTORS = [0, 97, 115, 109, 1, 0, 0, 0, 1, 5, 1, 96, 0, 1, 123, 3, 2, 1, 0, 10, 10, 1, 8, 0, 65, 0, 253, 15, 253, 98, 11];
-const MODULE = WebAssembly.validate(new Uint8Array(OF_VECTORS))
-  ? new URL("./riichi_desk.wasm", import.meta.url)
-  : new URL("./riichi_desk_plain.wasm", import.meta.url);
-
-async function bytesOfModule() {
-  if (MODULE.protocol === "file:" && typeof process === "object") {
-    const { readFile } = await import("node:fs/promises");
-    return readFile(MODULE);
-  }
-  const told = await fetch(MODULE);
-  if (!told.ok) throw new Error(`${MODULE}: ${told.status}`);
-  return told.arrayBuffer();
-}
-
-const { instance } = await WebAssembly.instantiate(await bytesOfModule(), {});
-const calls = instance.exports;
-const LINE = calls.memory.grow(5) * PAGE;
-const ROOM = LINE + MOST_TEXT;
 const TAKEN = ROOM + MOST_ANSWER;
-const memory = new Uint8Array(calls.memory.buffer); // a call takes no memory, so it stays this one
-const view = new DataView(calls.memory.buffer);
 const lineRoom = memory.subarray(LINE, LINE + MOST_LINE);
 const encoder = new TextEncoder();
 const decoder = new TextDecoder();
@@ -49,24 +27,6 @@ function put(line) {
   lineRoom.set(front);
   return front.length;
 }
-
-// The rules of a house in the order of their bits, and those that are on in the first profile.
-const RULES = [
-  "redFives",
-  "raise",
-  "addYakuman",
-  "doubleYakuman",
-  "countedYakuman",
-  "doubleWindPair",
-  "kongDrawFu",
-  "openSimples",
-  "openPinfuFu",
-  "ippatsu",
-  "ura",
-  "blessingOfMan",
-];
-const HOUSE = 0x10000;
-const FIRST = 0x7f0;
 
 export function house(changes = {}) {
   const strange = Object.keys(changes).find((name) => !RULES.includes(name));
@@ -90,11 +50,6 @@ export function rulesOf(text) {
     rest = rest.slice(1 + words[place].length);
   }
   return rules;
-}
-
-function tested(rules) {
-  if (rules === 1 || rules === 2 || (Number.isInteger(rules) && rules >= HOUSE && rules < HOUSE + (1 << RULES.length))) return;
-  throw new RangeError(`rules is 1, 2 or house({..}), and not ${rules}`);
 }
 
 function ask(call, line, rules) {

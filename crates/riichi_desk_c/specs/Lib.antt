@@ -5,3 +5,5 @@ pub mod ManyLines
 pub mod Rows
 pub mod WinRows
 pub mod JsonReasons
+pub mod GameTables
+pub mod Games
