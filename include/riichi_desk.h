@@ -1,4 +1,5 @@
-/* riichi_desk for C and C++: the answers of the command `line`, a line or many lines a call, and many hands or wins a call as arrays.
+/* riichi_desk for C and C++: the answers of the command `line`, a line or many lines a call, many hands or wins a call as arrays,
+ * and the ledger of a game of four.
  *
  * Link with libriichi_desk_c.a and the C library: they run on every processor of x86-64 under Linux. No call keeps anything or takes
  * memory, so any thread may make any of them at any time, where what it fills is its own and its stack has the space that the call
@@ -295,6 +296,278 @@ struct riichi_score {
  */
 size_t riichi_wins(
     uint32_t rules, const struct riichi_win *wins, size_t wins_len, struct riichi_score *scores, size_t scores_len);
+
+/* ---- A game of four players
+ *
+ * The ledger of a game, as docs/GAME.md has it: who pays whom after each deal, who deals next, when the game is over, the final points
+ * and what a player needs. The caller holds the rules, how far the game has come, and the list of outcomes; to take the last one back,
+ * the outcomes before it are played again, or the progress before it was kept.
+ *
+ * Players have the numbers 0 to 3, by their first seats: 0 sits East when the game begins. An array of four has something for each of
+ * them, in this order. All points are points, not thousands. A flag is set where it isn't 0. No struct has padding. Each call has some
+ * 10 kB on the stack.
+ */
+
+/* The rules of a table: 48 bytes. A program takes those of a name by `riichi_game_table` and changes some. */
+struct riichi_table {
+    uint32_t rules;   /* How hands are valued: RIICHI_RULES_ONE, RIICHI_RULES_TWO or rules of a house. */
+    uint32_t start;   /* What each player begins with: whole hundreds from 100 to 1000000. */
+    uint32_t returns; /* The points that count as 0 at the end: whole hundreds up to 1000000, not fewer than the start. */
+    uint32_t extra;   /* Where nobody has so many at the end of the last round, one round more is played; or RIICHI_NO_EXTRA. */
+    uint32_t chombo;  /* What a dead hand costs off the final points, or RIICHI_CHOMBO_MANGAN: a mangan paid to the others at once. */
+    int32_t uma[4];   /* The bonus of each place, in whole thousands up to 1000000 either way; none is greater than the one before. */
+    uint8_t ties;     /* RIICHI_TIES_SHARE or RIICHI_TIES_SEAT: players with equal points. */
+    uint8_t ron;      /* RIICHI_RON_ALL, RIICHI_RON_NEAREST or RIICHI_RON_TWO: who wins on one discard. */
+    uint8_t counters; /* RIICHI_COUNTERS_NEAREST or RIICHI_COUNTERS_EACH: to whom of several winners they are paid. */
+    uint8_t sticks;   /* RIICHI_STICKS_NEAREST or RIICHI_STICKS_OWN: who of several winners takes them. */
+    uint8_t liable;   /* A flag: there is responsibility for a yakuman (pao). */
+    uint8_t nagashi;  /* A flag: a draw may have a nagashi mangan. */
+    uint8_t renchan;  /* RIICHI_RENCHAN_READY or RIICHI_RENCHAN_WIN: when the dealer stays at a draw. */
+    uint8_t length;   /* RIICHI_LENGTH_SOUTH or RIICHI_LENGTH_EAST: the last round. */
+    uint8_t bust;     /* A flag: the game is over as soon as somebody has less than 0. */
+    uint8_t stop;     /* A flag: it is over where the last dealer stays and is first. */
+    uint8_t left;     /* RIICHI_LEFT_FIRST or RIICHI_LEFT_LOST: who has the sticks that lie at the end. */
+    uint8_t zero;     /* Always 0. */
+};
+
+#define RIICHI_CLUB 1
+#define RIICHI_LEAGUE 2
+#define RIICHI_ONLINE 3
+#define RIICHI_NO_EXTRA UINT32_MAX
+#define RIICHI_CHOMBO_MANGAN UINT32_MAX
+#define RIICHI_TIES_SHARE 0       /* They have the same place and share its bonuses; */
+#define RIICHI_TIES_SEAT 1        /*   the earlier first seat is ahead. */
+#define RIICHI_RON_ALL 0
+#define RIICHI_RON_NEAREST 1      /* The first in turn behind the discarder alone; */
+#define RIICHI_RON_TWO 2          /*   both of two, while three make the deal an abort. */
+#define RIICHI_COUNTERS_NEAREST 0
+#define RIICHI_COUNTERS_EACH 1
+#define RIICHI_STICKS_NEAREST 0
+#define RIICHI_STICKS_OWN 1       /* Each takes the own bet of the deal back, the nearest the rest. */
+#define RIICHI_RENCHAN_READY 0    /* Where ready; */
+#define RIICHI_RENCHAN_WIN 1      /*   never, by a win alone. */
+#define RIICHI_LENGTH_SOUTH 0
+#define RIICHI_LENGTH_EAST 1
+#define RIICHI_LEFT_FIRST 0
+#define RIICHI_LEFT_LOST 1        /* Nobody has them. */
+
+/* What the table shows between two deals: 20 bytes. */
+struct riichi_state {
+    int32_t points[4]; /* They may be less than 0. */
+    uint8_t round;     /* RIICHI_EAST and so on: the prevalent wind. */
+    uint8_t dealer;    /* The player who deals, and sits East. */
+    uint8_t counters;  /* How many lie on the table, 0 to 99. */
+    uint8_t sticks;    /* The riichi sticks on the table, 0 to 99. */
+};
+
+/* How far a game has come: 40 bytes. */
+struct riichi_progress {
+    struct riichi_state state;
+    uint32_t penalties[4]; /* The points off the final points, those for dead hands with them. */
+    uint32_t over;         /* 1 where the game is over, else 0. */
+};
+
+/* What a player wins: 6 bytes. All is 0 where the player doesn't win. `riichi_game_base` says the base points of han and fu,
+ * `riichi_game_worth` makes one of a hand. */
+struct riichi_worth {
+    uint16_t base;         /* Of RIICHI_BASE: the base points, 8000 at most; RIICHI_MANGAN and so on are those of limit hands. */
+    uint8_t limits;        /* Of RIICHI_YAKUMAN: how many limits of 8000 base points. */
+    uint8_t kind;          /* 0 where the player doesn't win, RIICHI_BASE or RIICHI_YAKUMAN. */
+    uint8_t liable;        /* RIICHI_LIABLE(player): who is liable for a yakuman; 0 for nobody. */
+    uint8_t liable_limits; /* For how many of its limits. */
+};
+
+#define RIICHI_BASE 1
+#define RIICHI_YAKUMAN 2
+#define RIICHI_MANGAN 2000
+#define RIICHI_HANEMAN 3000
+#define RIICHI_BAIMAN 4000
+#define RIICHI_SANBAIMAN 6000
+#define RIICHI_LIABLE(player) ((uint8_t)(1 + (player)))
+
+/* How a deal ended, or another entry of the ledger: 64 bytes. What an outcome of its kind doesn't have is 0, so one begins as
+ * `struct riichi_outcome outcome = {.kind = RIICHI_DRAW};`. */
+struct riichi_outcome {
+    uint16_t kind;               /* RIICHI_RON, RIICHI_TSUMO, or one of the six below. */
+    uint16_t player;             /* The discarder of a ron, the winner of a self-draw; whose hand is dead; who has the penalty. */
+    uint8_t riichi[4];           /* Flags: who has bet in the deal; not who declared with the very discard that was won on. */
+    uint8_t ready[4];            /* Of a draw, flags: who is ready. */
+    uint8_t nagashi[4];          /* Of a draw, flags: who has a nagashi mangan. */
+    struct riichi_worth wins[4]; /* Of a ron what all win who said it, whether or not the rules let them; of a self-draw the winner's. */
+    uint32_t points;             /* Of a penalty: how many. */
+    struct riichi_state state;   /* Of RIICHI_STANDS: what the table shows. */
+};
+
+#define RIICHI_DRAW 2
+#define RIICHI_ABORT 3   /* By four winds, nine terminals, four bets or four kongs. */
+#define RIICHI_CHOMBO 4  /* A dead hand: the deal is played again, and its bets go back. */
+#define RIICHI_PENALTY 5 /* Points off the final points, also behind the end. */
+#define RIICHI_STANDS 6  /* The state as it is written: of a game that begins elsewhere, or a correction. */
+#define RIICHI_END 7
+
+/* The faults of an outcome, in the order in which they are looked for: the first that holds is told. docs/GAME.md has the rules. */
+#define RIICHI_NOBODY_WINS 1     /* A ron without a winner. */
+#define RIICHI_DISCARDER_WINS 2
+#define RIICHI_WINNER_LIABLE 3
+#define RIICHI_NO_SUCH_WORTH 4   /* Over 8000 base points, or more limits than the rules allow, or none. */
+#define RIICHI_LIABLE_LIMITS 5   /* Liable for no limit, or for more than the hand has. */
+#define RIICHI_LIABLE_OFF 6
+#define RIICHI_NAGASHI_OFF 7
+#define RIICHI_BET_OF_TOO_FEW 8  /* A bet with fewer than 1000 points, where the game ends below 0. */
+#define RIICHI_NOT_READY 9       /* A bet at a draw of a player who isn't ready. */
+#define RIICHI_STANDS_SUM 10     /* A written state whose points, with 1000 for each stick, aren't four times the start. */
+#define RIICHI_STANDS_ROUND 11   /* A written state in a round that the rules don't have. */
+#define RIICHI_OVER_COUNTERS 12  /* There would be more than 99 counters; */
+#define RIICHI_OVER_STICKS 13    /*   more than 99 sticks; */
+#define RIICHI_OVER_POINTS 14    /*   a player with more than 1000000000 points, up or down, or so many penalties. */
+#define RIICHI_GAME_OVER 15
+/* Faults of what a call is given. */
+#define RIICHI_NO_TABLE 200      /* Numbers that say nothing, rules with a fault, or no such name. */
+#define RIICHI_NO_PROGRESS 201   /* A round or a dealer above 3. */
+#define RIICHI_NO_OUTCOME 202    /* A kind, a player, a worth or a state that says nothing; a self-draw without what is won. */
+#define RIICHI_NO_QUESTION 203   /* A player above 3, a place that isn't 1 to 4, or a way to win that there is not. */
+
+/* Puts the rules of a name into `table`: RIICHI_CLUB, the defaults of docs/GAME.md, RIICHI_LEAGUE or RIICHI_ONLINE. Hands are valued by
+ * RIICHI_RULES_ONE. Returns 0, or RIICHI_NO_TABLE, and then leaves the table as it is. */
+uint32_t riichi_game_table(uint32_t name, struct riichi_table *table);
+
+/* Why no game may have these rules: 0 where one may; 1 where points are above 1000000 or no whole hundreds, 2 a start below 100, 3 a
+ * return below the start, 4 a bonus that is no whole thousands or above 1000000 either way, 5 a bonus that is greater than the one
+ * before, 6 bonuses that don't add up to 0; RIICHI_NO_TABLE where a number says nothing. */
+uint32_t riichi_game_table_fault(const struct riichi_table *table);
+
+/* Puts how far a game is before its first deal into `progress`. Returns 0, or RIICHI_NO_TABLE, and then leaves it as it is. */
+uint32_t riichi_game_first(const struct riichi_table *table, struct riichi_progress *progress);
+
+/* Goes on by outcomes, one after the other, up to the first that is refused.
+ *
+ *   progress  How far the game has come, by `riichi_game_first` or such a call; is set to how far it comes by what is accepted.
+ *   fault     Is set to the number of the fault of the outcome that is refused, and to 0 where none is.
+ *
+ * Returns how many outcomes are accepted. An outcome that is refused changes nothing: the game stands as before it.
+ *
+ *     struct riichi_table table;
+ *     struct riichi_progress progress;
+ *     uint32_t fault;
+ *     riichi_game_table(RIICHI_CLUB, &table);
+ *     riichi_game_first(&table, &progress);
+ *     const struct riichi_outcome ron = {.kind = RIICHI_RON, .player = 2,
+ *         .wins = {[1] = {.kind = RIICHI_BASE, .base = (uint16_t)riichi_game_base(table.rules, RIICHI_RON, 1, 30)}}};
+ *     riichi_game_after(&table, &progress, &ron, 1, &fault);                        progress.state.points[1] is 31000
+ */
+size_t riichi_game_after(const struct riichi_table *table, struct riichi_progress *progress, const struct riichi_outcome *outcomes,
+    size_t outcomes_len, uint32_t *fault);
+
+/* Something that an outcome moves: 12 bytes. */
+struct riichi_move {
+    uint32_t points; /* From the one to the other; 1000 for each stick. */
+    uint32_t sticks; /* How many are put on the table, or taken from it. */
+    uint8_t from;    /* Who gives: a player, or RIICHI_THE_TABLE. */
+    uint8_t to;      /* Who gets. */
+    uint16_t why;    /* RIICHI_FOR_RON and so on. */
+};
+
+#define RIICHI_THE_TABLE 4
+#define RIICHI_FOR_RON 0
+#define RIICHI_FOR_TSUMO 1
+#define RIICHI_FOR_LIABLE 2     /* The limits of a yakuman that the payer is liable for. */
+#define RIICHI_FOR_OTHER_HALF 3 /* The discarder's half of what another is liable for. */
+#define RIICHI_FOR_COUNTERS 4
+#define RIICHI_FOR_READY 5
+#define RIICHI_FOR_NAGASHI 6
+#define RIICHI_FOR_CHOMBO 7
+#define RIICHI_FOR_BET 8        /* A player puts a stick on the table. */
+#define RIICHI_FOR_STICKS 9     /* A winner takes those that lie. */
+#define RIICHI_FOR_OWN_BET 10   /* One of several winners takes the own bet back. */
+
+/* What all moves of an outcome change: 40 bytes. */
+struct riichi_changes {
+    int64_t points[4]; /* What the points of each player change, counted from before the bets. */
+    uint32_t sticks;   /* How many lie on the table afterwards. */
+    uint32_t moves;    /* How many moves there are, whether or not they have a place. */
+};
+
+/* No outcome moves more. */
+#define RIICHI_MOST_MOVES 40
+
+/* Says what an outcome moves, where the game has come so far: who pays whom how many points, and why, and what all of it changes. The
+ * sum of the moves is the change. A penalty, a written state and the end move nothing.
+ *
+ *   moves     The moves in the order in which they are told, as many as have a place; what lies behind them stays.
+ *   changes   What all of them change.
+ *
+ * Returns 0; or the number of the fault for which the outcome is refused, and then nothing is told.
+ */
+uint32_t riichi_game_moves(const struct riichi_table *table, const struct riichi_progress *progress,
+    const struct riichi_outcome *outcome, struct riichi_move *moves, size_t moves_len, struct riichi_changes *changes);
+
+/* What a player has at the end: 32 bytes. */
+struct riichi_final {
+    int64_t points;   /* With the sticks that the rules give. */
+    int64_t bonus;    /* Of the place, or the part of a shared one. */
+    int64_t total;    /* The final points: points less the return, with the bonus, less the penalty. */
+    uint32_t penalty; /* Penalties, and points for dead hands. */
+    uint32_t place;   /* 1 to 4; players who share one have the same. */
+};
+
+/* What the four players have at the end: 128 bytes. */
+struct riichi_finals {
+    struct riichi_final players[4];
+};
+
+/* Says what each player has where the game ends there, whether or not it is over. Returns 0, RIICHI_NO_TABLE or RIICHI_NO_PROGRESS. */
+uint32_t riichi_game_finals(
+    const struct riichi_table *table, const struct riichi_progress *progress, struct riichi_finals *finals);
+
+/* Which place a player is to reach in the next deal: 6 bytes. */
+struct riichi_question {
+    uint8_t player;
+    uint8_t place;     /* 1 to 4: that place or a better one. */
+    uint8_t riichi[4]; /* Flags: who bets in the deal. The player's own bet comes back and changes nothing. */
+};
+
+/* A row of the table of payments: 16 bytes. All is 0 where no row up to one yakuman is enough. */
+struct riichi_paid {
+    uint32_t base;      /* The base points; `riichi_game_base` says which han and fu have these. */
+    uint32_t discarder; /* What each pays, with the counters, as in `struct riichi_score`. */
+    uint32_t dealer;
+    uint32_t other;
+};
+
+/* What a player needs by one way of winning: 32 bytes. */
+struct riichi_need {
+    struct riichi_paid strictly; /* The least row after which fewer others than the place have as many points or more. */
+    struct riichi_paid with_tie; /* The least after which fewer others than the place are ahead, by the rules' ties. */
+};
+
+/* What a player needs: 160 bytes. */
+struct riichi_needs {
+    struct riichi_need off[4];   /* By ron off each player; all 0 for the own discard. */
+    struct riichi_need by_tsumo;
+};
+
+/* Says the least rows of the table of payments that bring a player to a place, who wins the next deal alone and with nobody liable.
+ * Every greater row does too, and no lesser one. Returns 0, RIICHI_NO_TABLE, RIICHI_NO_PROGRESS, RIICHI_NO_QUESTION, or
+ * RIICHI_GAME_OVER of a game that has no next deal. */
+uint32_t riichi_game_needs(const struct riichi_table *table, const struct riichi_progress *progress,
+    const struct riichi_question *question, struct riichi_needs *needs);
+
+/* Says what a hand is worth that a player wins in the next deal, as a part of its outcome.
+ *
+ *   winner, by   The player, and RIICHI_RON or RIICHI_TSUMO.
+ *   hand         The hand. Its `by`, `seat`, `round`, `counters` and `sticks` may be 0: those of the game hold. Its `riichi` is a bet
+ *                only where the outcome names it.
+ *   worth        Is set to the worth, with nobody liable.
+ *
+ * Returns RIICHI_WON; or RIICHI_NO_YAKU, RIICHI_NO_WIN, n where the hand is refused as `refused Hn`, RIICHI_NO_TABLE,
+ * RIICHI_NO_PROGRESS or RIICHI_NO_QUESTION, and then nothing is set.
+ */
+uint32_t riichi_game_worth(const struct riichi_table *table, const struct riichi_progress *progress, uint32_t winner, uint32_t by,
+    const struct riichi_win *hand, struct riichi_worth *worth);
+
+/* The base points of a hand of so many han and fu, won by RIICHI_RON or RIICHI_TSUMO; 0 where no hand has so many, or `rules` are
+ * none. */
+uint32_t riichi_game_base(uint32_t rules, uint32_t by, uint32_t han, uint32_t fu);
 
 /* The name and version, such as `riichi_desk 0.1.0`, into the room as above. Returns how many bytes it takes. */
 size_t riichi_version(uint8_t *room, size_t room_len);

@@ -1,4 +1,4 @@
-import { answer, answerLines, answers, explain, text, type Answer } from "riichi_desk";
+import { answer, answerLines, answers, explain, Game, table, text, type Answer, type Outcome } from "riichi_desk";
 
 function told(it: Answer): string {
   switch (it.answer) {
@@ -12,3 +12,13 @@ function told(it: Answer): string {
 
 const one = answer("waits 123456789m1134p");
 console.log(one && told(one), text("shape 123456789m1134p"), explain("waits 1m").join("\n"), answers(["waits 1m"]).length, answerLines("waits 1m\n").length);
+
+const outcomes: Outcome[] = [
+  { kind: "ron", discarder: 2, wins: [{ winner: 1, value: { han: 1, fu: 30 } }], riichi: [1] },
+  { kind: "tsumo", winner: 0, value: { yakuman: 1, liable: 3 } },
+  { kind: "end" },
+];
+const game = new Game({ ...table("league"), bust: true });
+for (const outcome of outcomes) game.add(outcome);
+const needed = game.need(0, 2).off[1]?.strictly?.discarder ?? 0;
+console.log(game.state.round, game.changes[0], game.moves[0]?.why, game.final()[3].total + needed, game.undo()?.kind, game.isOver);

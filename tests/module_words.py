@@ -3,8 +3,9 @@
 
 import doctest
 
+import riichi_desk.game
 import riichi_desk.records
 import riichi_desk.values
 
-for module in riichi_desk.records, riichi_desk.values:
+for module in riichi_desk.game, riichi_desk.records, riichi_desk.values:
     doctest.testmod(module)

@@ -83,6 +83,7 @@ if [ -f "$wheel" ] && /usr/bin/python3 -m venv "$shelf/venv" > /dev/null 2>&1 &&
   same 'the wheel, a call a text' wanted "$python" -c 'import riichi_desk, sys; sys.stdout.buffer.write(riichi_desk.lines(sys.stdin.buffer.read()))'
   same 'the wheel, values' wanted "$python" tests/typed_answers.py
   told 'the wheel, arrays' 'all right' "$("$python" tests/array_answers.py 2>&1)"
+  told 'the wheel, games' 'no difference' "$("$python" tests/game_answers.py 2>&1 | sed 's/.* deals, //')"
   told 'its edges' 'all right' "$("$python" tests/module_edges.py "$shelf/lines" 2>&1)"
   told 'its licences' "$(unzip -l "$wheel" | grep -c 'licenses/.*LICENSE')" "$(tar -tf "$packages/riichi_desk-$version.crate" | grep -c LICENSE)"
   if has mypy; then
@@ -124,6 +125,8 @@ if [ -f "$script" ] && has npm node; then
     import { house, text } from "riichi_desk";
     console.log(text("win 123406789m22s34p on=2p by=ron seat=S round=E", house({ redFives: true })));')"
   told 'Node: a first line of rules' "$(cat examples/rules-two.answers)" "$("$command" line < examples/rules-two.lines)"
+  cp tests/game_answers.mjs "$shelf/node"
+  told 'Node: games' 'all right' "$(cd "$shelf/node" && node game_answers.mjs 2>&1)"
   if has tsc; then
     cp tests/module_types.ts "$shelf/node"
     told 'the types for JavaScript' '' "$(cd "$shelf/node" && tsc --strict --noEmit --target es2022 --module es2022 --moduleResolution node module_types.ts 2>&1)"
@@ -145,6 +148,8 @@ if [ -f "$portable" ]; then
   told 'one file of C: hands as arrays' '16 calls of each, no difference' "$("$shelf/arrays-portable" 0 1 2>&1)"
   cc -O1 -Iinclude tests/fuzz_lines.c "$shelf/portable.o" -o "$shelf/rows-portable"
   told 'one file of C: texts and rows at random' '256 texts, no difference' "$("$shelf/rows-portable" 0 1 "$shelf/few" 2>&1)"
+  cc -O1 -Iinclude tests/games.c "$shelf/portable.o" -o "$shelf/games-portable"
+  told 'one file of C: games at random' 'no difference' "$("$shelf/games-portable" 7 20 2>&1 | sed 's/.* outcomes, //')"
   cc -shared "$shelf/portable.o" -o "$shelf/portable.so"
   told 'one file of C: its calls' "$(grep -oE '\briichi_[a-z_]+\(' include/riichi_desk.h | tr -d '(' | sort -u | xargs)" \
     "$(nm -D --defined-only "$shelf/portable.so" | sed -n 's/.* T \(riichi_.*\)/\1/p' | sort | xargs)"

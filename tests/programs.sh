@@ -50,6 +50,9 @@ if command -v rustc > /dev/null; then
 else
   skip 'a program in Rust' rustc
 fi
+cc -O1 -g -Wall -Wextra -std=c99 -pedantic -fsanitize=address,undefined -Iinclude tests/games.c "$archive" -o "$made/games"
+told 'games at random' 'no difference' "$("$made/games" 7 200 2>&1 | sed 's/.* outcomes, //')"
+told 'games by Python' 'no difference' "$(by_python tests/game_answers.py 2>&1 | sed 's/.* deals, //')"
 told 'what the library asks of the C library' 'memcpy memmove memset' "$(nm -u "$archive" | sed -n 's/^ *U //p' | sort -u | xargs)"
 
 # the plain ledger of bench/, by which docs/GAME.md and the worked deals were reckoned

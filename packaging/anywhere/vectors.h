@@ -129,6 +129,7 @@ OF_WIDTH(i16x8, u16, s16, u32)
 OF_WIDTH(i32x4, u32, s32, u32)
 OF_WIDTH(i64x2, u64, s64, u64)
 static inline v128 v128_not(v128 x) { return i64x2_eq(v128_and(x, zeros), zeros); }
+OF_TWO(i64x2_mul, u64, a * b)
 OF_TWO(i8x16_add_sat_u, u8, a + EITHER(u8, b < MOST - a, b, (MOST - a)))
 OF_TWO(i8x16_sub_sat_u, u8, a - EITHER(u8, b < a, b, a))
 static inline u32 i8x16_extract_lane_u(v128 x, u32 at) { return LANE(u8, x, at); }
@@ -141,6 +142,9 @@ static inline v128 i64x2_alone(u64 low) { return i64x2_replace_lane(zeros, low, 
 /* The highest bit of each lane of eight. */
 static inline u32 highest_bits(u64 lanes) { return (u32)((lanes & 0x8080808080808080) * 0x02040810204081 >> 56); }
 static inline u32 i8x16_bitmask(v128 x) { return highest_bits(LANE(u64, x, 0)) | highest_bits(LANE(u64, x, 1)) << 8; }
+static inline u32 i32x4_bitmask(v128 x) {
+    return LANE(u32, x, 0) >> 31 | LANE(u32, x, 1) >> 31 << 1 | LANE(u32, x, 2) >> 31 << 2 | LANE(u32, x, 3) >> 31 << 3;
+}
 
 /* The lower half of the lanes, each twice as wide. */
 #define WIDER(name, narrow, shape, count) \

@@ -98,3 +98,4 @@ export function jsonLines(text: Line, rules?: Rules): string;
 export function explainLines(text: Line, rules?: Rules): string;
 /** The name and version of the library. */
 export function version(): string;
+export * from "./game.js";

@@ -1,33 +1,11 @@
 // The proved library for browsers and for Node: import { answer } from "riichi_desk". The modules lie beside this file.
 
+import { calls, LINE, memory, MOST_ANSWER, MOST_TEXT, ROOM, tested, view } from "./module.js";
+
+export { Game, HandRefused, OutcomeRefused, RulesRefused, table } from "./game.js";
+
 const MOST_LINE = 4200; // a line of more than 4096 bytes is refused whatever follows
-const PAGE = 65536;
-const MOST_TEXT = PAGE;
-const MOST_ANSWER = 4 * PAGE - 8;
-
-// A module with nothing but an instruction on vectors. An engine that has none takes the module without them, which is slower.
-const OF_VECTORS = [0, 97, 115, 109, 1, 0, 0, 0, 1, 5, 1, 96, 0, 1, 123, 3, 2, 1, 0, 10, 10, 1, 8, 0, 65, 0, 253, 15, 253, 98, 11];
-const MODULE = WebAssembly.validate(new Uint8Array(OF_VECTORS))
-  ? new URL("./riichi_desk.wasm", import.meta.url)
-  : new URL("./riichi_desk_plain.wasm", import.meta.url);
-
-async function bytesOfModule() {
-  if (MODULE.protocol === "file:" && typeof process === "object") {
-    const { readFile } = await import("node:fs/promises");
-    return readFile(MODULE);
-  }
-  const told = await fetch(MODULE);
-  if (!told.ok) throw new Error(`${MODULE}: ${told.status}`);
-  return told.arrayBuffer();
-}
-
-const { instance } = await WebAssembly.instantiate(await bytesOfModule(), {});
-const calls = instance.exports;
-const LINE = calls.memory.grow(5) * PAGE;
-const ROOM = LINE + MOST_TEXT;
 const TAKEN = ROOM + MOST_ANSWER;
-const memory = new Uint8Array(calls.memory.buffer); // a call takes no memory, so it stays this one
-const view = new DataView(calls.memory.buffer);
 const lineRoom = memory.subarray(LINE, LINE + MOST_LINE);
 const encoder = new TextEncoder();
 const decoder = new TextDecoder();
@@ -74,12 +52,6 @@ export function rulesOf(text) {
   if (rules === 0) return undefined;
   const profile = ["1", "2"].findIndex((word) => numberOf(word) === rules);
   return profile < 0 ? rules : profile + 1;
-}
-
-// (a blank line has no answer under any rules, and under no rules it is refused)
-function tested(rules) {
-  if (Number.isInteger(rules) && rules >= 0 && rules < 2 ** 32 && calls.riichi_answer(rules, AT[0], 0n, AT[1], AT[2]) === 0n) return;
-  throw new RangeError(`rules is 1, 2 or house({..}), and not ${rules}`);
 }
 
 function ask(call, line, rules) {

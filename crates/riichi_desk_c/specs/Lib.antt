@@ -6,3 +6,5 @@ pub mod Rows
 pub mod WinRows
 pub mod JsonReasons
 pub mod RulesRead
+pub mod GameTables
+pub mod Games

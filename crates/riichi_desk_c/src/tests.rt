@@ -1,4 +1,5 @@
 mod facts;
+mod games;
 mod rules;
 mod wins;
 

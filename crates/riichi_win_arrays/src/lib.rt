@@ -10,6 +10,6 @@ mod score_row;
 mod told;
 mod win_row;
 
-pub use score_row::ScoreRow;
+pub use score_row::{Paid, ScoreRow, fault_number, paid_by};
 pub use told::wins;
-pub use win_row::WinRow;
+pub use win_row::{WinRow, by_in, wind_in};

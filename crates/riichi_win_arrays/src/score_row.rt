@@ -83,14 +83,15 @@ impl ScoreRow {
 
 /// What each payer pays, in points.
 #[derive(Clone, Copy)]
-pub(crate) struct Paid {
-    pub(crate) discarder: u32,
-    pub(crate) dealer: u32,
+pub struct Paid {
+    pub discarder: u32,
+    pub dealer: u32,
     /// Each of the others.
-    pub(crate) other: u32,
+    pub other: u32,
 }
 
-fn paid_by(payment: &Payment) -> Paid
+/// What each payer of a payment pays.
+pub fn paid_by(payment: &Payment) -> Paid
     ensures { result ≡ spec.paid_by payment.now }
 {
     let (discarder, dealer, other) = match payment {
@@ -106,7 +107,7 @@ fn paid_by(payment: &Payment) -> Paid
 }
 
 /// The number of a fault; no record has one of notation.
-fn fault_number(fault: &LineFault) -> u8
+pub fn fault_number(fault: &LineFault) -> u8
     ensures { result ≡ spec.fault_number fault.now }
 {
     match fault {

@@ -45,7 +45,7 @@ pub struct WinRow {
 
 impl WinRow {
     /// The parts of the win, none where a byte says nothing.
-    pub(crate) fn parts(&self, rules: Rules) -> Option<WinParts>
+    pub fn parts(&self, rules: Rules) -> Option<WinParts>
         ensures { result ≡ spec.parts_in_row rules self.now }
     {
         if self.zero != 0 {
@@ -56,7 +56,7 @@ impl WinRow {
             concealed: counts_in(&self.concealed)?,
             melds: melds_in(&self.melds)?,
             winning: Kind::new(self.winning)?,
-            by: by_in(self.by)?,
+            by: by_in(u32::from(self.by))?,
             seat: wind_in(self.seat)?,
             round: wind_in(self.round)?,
             riichi: self.riichi,
@@ -82,17 +82,19 @@ impl WinRow {
     }
 }
 
-fn by_in(byte: u8) -> Option<By>
-    ensures { result ≡ spec.by_in byte }
+/// How a hand is won, by the number.
+pub fn by_in(number: u32) -> Option<By>
+    ensures { result ≡ spec.by_in number }
 {
-    match byte {
+    match number {
         0 => Some(By::Ron),
         1 => Some(By::Tsumo),
         _ => None,
     }
 }
 
-fn wind_in(byte: u8) -> Option<Wind>
+/// The wind of a number, from 0 for East on.
+pub fn wind_in(byte: u8) -> Option<Wind>
     ensures { result ≡ spec.wind_in byte }
 {
     match byte {

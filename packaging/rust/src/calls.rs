@@ -1,5 +1,6 @@
 //! The calls of `riichi_desk.h`, as they are.
 use crate::arrays::{Score, Win};
+use crate::game_rows::{ChangesRow, FinalsRow, MoveRow, NeedsRow, OutcomeRow, ProgressRow, QuestionRow, TableRow, WorthRow};
 
 pub const MOST_ANSWER: usize = 3072;
 pub const MOST_JSON: usize = 12288;
@@ -74,4 +75,38 @@ extern "C" {
         kinds_len: usize,
     ) -> usize;
     pub fn riichi_wins(rules: u32, wins: *const Win, wins_len: usize, scores: *mut Score, scores_len: usize) -> usize;
+    pub fn riichi_game_table(name: u32, table: *mut TableRow) -> u32;
+    pub fn riichi_game_table_fault(table: *const TableRow) -> u32;
+    pub fn riichi_game_first(table: *const TableRow, progress: *mut ProgressRow) -> u32;
+    pub fn riichi_game_after(
+        table: *const TableRow,
+        progress: *mut ProgressRow,
+        outcomes: *const OutcomeRow,
+        outcomes_len: usize,
+        fault: *mut u32,
+    ) -> usize;
+    pub fn riichi_game_moves(
+        table: *const TableRow,
+        progress: *const ProgressRow,
+        outcome: *const OutcomeRow,
+        moves: *mut MoveRow,
+        moves_len: usize,
+        changes: *mut ChangesRow,
+    ) -> u32;
+    pub fn riichi_game_finals(table: *const TableRow, progress: *const ProgressRow, finals: *mut FinalsRow) -> u32;
+    pub fn riichi_game_needs(
+        table: *const TableRow,
+        progress: *const ProgressRow,
+        question: *const QuestionRow,
+        needs: *mut NeedsRow,
+    ) -> u32;
+    pub fn riichi_game_worth(
+        table: *const TableRow,
+        progress: *const ProgressRow,
+        winner: u32,
+        by: u32,
+        hand: *const Win,
+        worth: *mut WorthRow,
+    ) -> u32;
+    pub fn riichi_game_base(rules: u32, by: u32, han: u32, fu: u32) -> u32;
 }

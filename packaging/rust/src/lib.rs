@@ -10,13 +10,16 @@
 //! }
 //! ```
 //!
-//! Many hands without text are answered by [`arrays`].
+//! Many hands without text are answered by [`arrays`], and [`game`] keeps the ledger of a game of four.
 //!
 //! A line is a `&str` or bytes, without its line feed and a carriage return before that. Every call may be made by any thread.
 use std::str;
 
 pub mod arrays;
 mod calls;
+pub mod game;
+mod game_rows;
+mod game_values;
 mod rules;
 
 pub use rules::{House, Rules, RulesFault};

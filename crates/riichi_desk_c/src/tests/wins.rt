@@ -6,7 +6,7 @@ use riichi_win_arrays::{ScoreRow, WinRow};
 use std::process::Abort;
 
 /// `win 123406789m22s34p on=2p by=ron seat=S round=E`
-const STRAIGHT: WinRow = WinRow {
+pub(super) const STRAIGHT: WinRow = WinRow {
     concealed: [
         1, 1, 1, 1, 1, 1, 1, 1, 1, 0, 0, 1, 1, 0, 0, 0, 0, 0, 0, 2, 0, 0, 0, 0, 0, 0, 0, 0, 0, 0,
         0, 0, 0, 0,

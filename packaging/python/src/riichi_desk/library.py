@@ -6,7 +6,7 @@ import ctypes
 import os
 import threading
 from pathlib import Path
-from typing import Union
+from typing import Any, Union
 
 Line = Union[str, bytes, bytearray, memoryview]
 """A line: a text, or its bytes. A line feed at its end is no part of it, nor a carriage return before that."""
@@ -16,8 +16,9 @@ MOST = 12288
 ROOM = 1 << 20
 
 _SIZE, _AT, _RULES = ctypes.c_size_t, ctypes.c_void_p, ctypes.c_uint32
+_WORD = ctypes.c_uint32
 CALLS = ctypes.CDLL(os.environ.get("RIICHI_DESK", str(Path(__file__).with_name("libriichi_desk.so"))))
-_ARGUMENTS = {
+_ARGUMENTS: dict[str, list[Any]] = {
     "riichi_version": [_AT, _SIZE],
     **dict.fromkeys(("riichi_answer", "riichi_json", "riichi_explain", "riichi_explain_json"), [_RULES, ctypes.c_char_p, _SIZE, _AT, _SIZE]),
     **dict.fromkeys(("riichi_answer_lines", "riichi_json_lines"), [_RULES, _AT, _SIZE, _AT, _SIZE, ctypes.POINTER(_SIZE)]),
@@ -25,11 +26,25 @@ _ARGUMENTS = {
     "riichi_shapes": [_AT, _SIZE] * 6,
     "riichi_discards": [_AT, _SIZE] * 7,
     "riichi_wins": [_RULES, *[_AT, _SIZE] * 2],
+    "riichi_game_after": [_AT, _AT, _AT, _SIZE, _AT],
+}
+_OF_GAMES: dict[str, list[Any]] = {
+    "riichi_game_table": [_WORD, _AT],
+    "riichi_game_table_fault": [_AT],
+    "riichi_game_first": [_AT] * 2,
+    "riichi_game_moves": [*[_AT] * 4, _SIZE, _AT],
+    "riichi_game_finals": [_AT] * 3,
+    "riichi_game_needs": [_AT] * 4,
+    "riichi_game_worth": [_AT, _AT, _WORD, _WORD, _AT, _AT],
+    "riichi_game_base": [_WORD] * 4,
 }
 for _name, _types in _ARGUMENTS.items():
     _call = getattr(CALLS, _name)
     _call.argtypes, _call.restype = _types, _SIZE
 CALLS.riichi_rules.argtypes, CALLS.riichi_rules.restype = [ctypes.c_char_p, _SIZE, ctypes.POINTER(_SIZE)], _RULES
+for _name, _types in _OF_GAMES.items():
+    _call = getattr(CALLS, _name)
+    _call.argtypes, _call.restype = _types, _WORD
 
 
 class _Rooms(threading.local):

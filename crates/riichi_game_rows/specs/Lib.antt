@@ -1,0 +1,12 @@
+pub mod Fours
+pub mod TableRows
+pub mod StateRows
+pub mod WorthRows
+pub mod OutcomeRows
+pub mod MoveRows
+pub mod FinalRows
+pub mod NeedRows
+pub mod FaultNumbers
+pub mod Playing
+pub mod HandRows
+pub mod Laws
