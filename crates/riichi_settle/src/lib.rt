@@ -15,9 +15,9 @@ mod prices;
 mod rons;
 mod settling;
 mod tsumos;
-mod winners;
+mod winning;
 
 pub use making::moves_of;
 pub use moved::{Move, Moves, Reason, Taking};
 pub use settling::{Changes, changes_by, points_after, settle};
-pub use winners::{as_played, nearest, winners};
+pub use winning::{as_played, nearest, winners};

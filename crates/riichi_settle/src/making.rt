@@ -6,7 +6,7 @@ use crate::draws::{push_chombo, push_draw};
 use crate::moved::{Moves, Taking, push_bets, push_taken};
 use crate::rons::{push_ron, push_sticks_won};
 use crate::tsumos::push_tsumo;
-use crate::winners::as_played;
+use crate::winning::as_played;
 use arrayvec::ArrayVec;
 use riichi_table::{ByPlayer, GameState, Outcome, TableRules};
 

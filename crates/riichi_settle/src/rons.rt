@@ -5,7 +5,7 @@ ghost use Rattle.riichi_settle.specs.Wins as spec;
 
 use crate::moved::{Moves, Reason, Taking, push_paid, push_taken};
 use crate::prices::ron_price;
-use crate::winners::{nearest, winners};
+use crate::winning::{nearest, winners};
 use riichi_table::{
     ByPlayer, CountersTo, GameState, Liable, Player, SticksTo, TableRules, Win, Worth,
 };
