@@ -17,4 +17,3 @@ most_seven digits within = most_rises digits 7 within
 
 pub most_nine : (digits : ℕ) → digits ≤ 9 → most digits ≤ 1000000000
 most_nine digits within = most_rises digits 9 within
-

@@ -1,7 +1,7 @@
 //! The names of the four players.
 ghost use Rattle.std.specs.Prelude.{◌≡◌, ◌≤◌, ◌==◌, true, false, length, Some, None, MatchOption};
 ghost use Rattle.std.specs.List.{list_all, starts_with};
-ghost use Rattle.core.specs.Str.{is_utf8, bytes_eq};
+ghost use Rattle.std.specs.Str.{is_utf8, bytes_eq};
 ghost use Rattle.riichi_table.specs.Players.{by_players, of_player};
 ghost use Rattle.riichi_game_text.specs.Words.{said_in, name_words};
 ghost use Rattle.riichi_game_text.specs.Names as spec;
@@ -183,7 +183,11 @@ fn read_name(word: &[u8]) -> Option<Name>
     ensures { MatchOption result (spec.is_name word.now ≡ false)
         (λ name. (spec.is_name word.now ≡ true) × (name.bytes ≡ word.now)) }
 {
-    if word.len() < 1 || word.len() > MOST_NAME || begins_note(word) || !has_name_bytes_alone(word) {
+    if word.len() < 1
+        || word.len() > MOST_NAME
+        || begins_note(word)
+        || !has_name_bytes_alone(word)
+    {
         return None;
     }
     let text = text_of(word)?;

@@ -38,7 +38,7 @@ fn has_equals(word: &[u8]) -> bool
 pub(crate) fn next_rule_word(text: &[u8]) -> Option<(&[u8], &[u8])>
     ensures { MatchOption result (spec.rule_words (spec.said_in text.now) ≡ [])
         (λ found. (spec.rule_words (spec.said_in text.now)
-            ≡ found.0.now ∷ spec.rule_words (spec.said_in found.1.now))
+        ≡ found.0.now ∷ spec.rule_words (spec.said_in found.1.now))
         × (length found.1.now < length text.now)) }
 {
     let mut rest = text;
@@ -55,7 +55,7 @@ pub(crate) fn next_rule_word(text: &[u8]) -> Option<(&[u8], &[u8])>
 pub(crate) fn next_name_word(text: &[u8]) -> Option<(&[u8], &[u8])>
     ensures { MatchOption result (spec.name_words (spec.said_in text.now) ≡ [])
         (λ found. (spec.name_words (spec.said_in text.now)
-            ≡ found.0.now ∷ spec.name_words (spec.said_in found.1.now))
+        ≡ found.0.now ∷ spec.name_words (spec.said_in found.1.now))
         × (length found.1.now < length text.now)) }
 {
     let mut rest = text;
