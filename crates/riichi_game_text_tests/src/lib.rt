@@ -1,0 +1,9 @@
+//! Tests of `riichi_game_text` by what it exports: the lines and the answers of docs/GAME.md.
+//!
+//! They stand apart from the library, since a check of a crate with its tests proves the crate once more.
+#![tactic(auto)]
+
+#[cfg(test)]
+mod answers;
+#[cfg(test)]
+mod game_lines;
