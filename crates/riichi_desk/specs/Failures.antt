@@ -1,8 +1,10 @@
 -- With which exit status the program ends.
-use Rattle.std.specs.Prelude.{◌≡◌, ◌≢◌, ◌⊎◌, ℕ, Bool, Result, Ok, Err, if◌then◌else◌}
+use Rattle.std.specs.Prelude.{◌≡◌, ◌≢◌, ◌⊎◌, ◌==◌, ℕ, Bool, List, Result, Ok, Err, if◌then◌else◌}
+use Rattle.std.specs.List.{before_first}
 use Rattle.clap.specs.Values.{kind_of}
 use Rattle.clap.specs.declared.error.kind.ErrorKind.TheVariants.{DisplayHelp, DisplayVersion}
 use Rattle.desk_score.specs.Faults.{desk_fault, status_of}
+use Rattle.desk_cli.specs.Near.{IsNearestRule}
 use Rattle.desk_cli.specs.declared.request.Form.{Form}
 use Rattle.desk_cli.specs.declared.request.Form.TheVariants as forms
 use Rattle.desk_lines.specs.declared.fault.DeskFault.{DeskFault}
@@ -34,6 +36,16 @@ failure_in forms.Json fault = failures.Fault (desk_fault fault)
 failure_in forms.Reasons fault = failures.Explained fault
 failure_in forms.AllReasons fault = failures.Explained fault
 failure_in forms.JsonReasons fault = failures.Explained fault
+
+-- a file can't be opened, or there is no memory for it
+abbrev pub IsUnopened : List ℕ → Failure → Type 0
+IsUnopened name (failures.CannotOpen file) = file.now ≡ name
+IsUnopened name failure = failure ≡ failures.Fault fault_names.Memory
+
+-- A word names no rule, and a near rule is told, if there is one; or there is no memory to find it.
+abbrev pub IsUnknownRule : List ℕ → Failure → Type 0
+IsUnknownRule text (failures.UnknownRule word nearest) = (word.now ≡ before_first (λ byte. byte == 43) text) × IsNearestRule word.now nearest
+IsUnknownRule text failure = failure ≡ failures.Fault fault_names.Memory
 
 -- the answers could not be written
 abbrev pub IsUnwritten : Failure → Type 0

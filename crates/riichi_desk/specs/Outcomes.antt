@@ -1,10 +1,11 @@
 -- What is known of the outcome of a request: whether a line is refused, or which failure keeps the program from an answer.
-use Rattle.std.specs.Prelude.{◌≡◌, ◌≢◌, ◌<◌, ℕ, Bool, true, false, List, length, sum, Result, Err, IfOk}
+use Rattle.std.specs.Prelude.{◌≡◌, ◌≢◌, ◌<◌, ℕ, Bool, true, false, List, length, sum, Result, Ok, Err, IfOk}
 use Rattle.riichi_tiles.specs.Notation.{Spells, IsFirstFault}
 use Rattle.riichi_tiles.specs.declared.notation.NotationFault.{NotationFault}
 use Rattle.desk_cli.specs.declared.request.Request.{Request}
 use Rattle.desk_cli.specs.declared.request.Request.TheVariants as requests
 use Rattle.desk_score.specs.declared.score_fault.ScoreFault.TheVariants.{Range}
+use Rattle.riichi_desk.specs.Failures.{IsUnknownRule}
 use Rattle.riichi_desk.specs.declared.failure.Failure.{Failure}
 use Rattle.riichi_desk.specs.declared.failure.Failure.TheVariants.{Fault}
 use Rattle.riichi_desk.specs.Told.{TellsRefused}
@@ -15,9 +16,14 @@ pub record TellsWaits (hand : List ℕ) (is_refused : Bool) : Type 0 where
   pub not_thirteen : (counts : List ℕ) → Spells hand counts → sum counts ≢ 13 → is_refused ≡ true
   pub fault : (fault : NotationFault) → IsFirstFault hand fault → is_refused ≡ true
 
--- rules that there aren't are never answered; of tables there are 64 at most; a table of codes, rules or yaku has no line that is refused
+-- rules that there aren't are never answered
+abbrev pub TellsUnknown : List ℕ → Result Bool Failure → Type 0
+TellsUnknown word (Ok is_refused) = ⊥
+TellsUnknown word (Err failure) = IsUnknownRule word failure
+
+-- of tables there are 64 at most; a table of codes, rules or yaku has no line that is refused
 abbrev pub IsCarriedOut : Request → Result Bool Failure → Type 0
-IsCarriedOut (requests.UnknownRules word) outcome = IfOk outcome (λ is_refused. ⊥)
+IsCarriedOut (requests.UnknownRules word) outcome = TellsUnknown word.now outcome
 IsCarriedOut (requests.Waits hand) outcome = IfOk outcome (TellsWaits hand.now)
 IsCarriedOut (requests.Lines lines manner is_quiet) outcome = IfOk outcome (TellsRefused manner.rules lines)
 IsCarriedOut (requests.Score files workers rules is_numbered is_quiet) outcome = 64 < length files.now → outcome ≡ Err (Fault Range)

@@ -7,7 +7,7 @@ ghost use Rattle.desk_lines.specs.Telling.{text_of};
 ghost use Rattle.desk_script.specs.OnlyReplay.{IsOnlyReplay};
 ghost use Rattle.desk_script.specs.Replay.{Replays};
 ghost use Rattle.riichi_desk.specs.Failures.{EndsWith, IsReportedBy, IsUnwritten};
-ghost use Rattle.riichi_desk.specs.Outcomes.{IsCarriedOut, TellsWaits};
+ghost use Rattle.riichi_desk.specs.Outcomes.{IsCarriedOut, TellsUnknown, TellsWaits};
 
 use crate::codes::print_codes;
 use crate::failure::{Failure, report};
@@ -160,9 +160,12 @@ fn answer_request<'a, R: Input + Print + Eprint + Files + Clock + Threads + Sync
 
 /// That no rule has this name, and which one is near.
 fn unknown_rule<'a>(alloc: Global, word: &'a str) -> Result<bool, Failure<'a>>
-    ensures { IfOk result (λ is_refused. ⊥) }
+    ensures { TellsUnknown word.now result }
 {
-    let word = word.split('+').next().unwrap_or(word);
+    let word = match word.split_once('+') {
+        Some((first, _)) => first,
+        None => word,
+    };
     let nearest = nearest_rule(alloc, word)?;
     Err(Failure::UnknownRule { word, nearest })
 }

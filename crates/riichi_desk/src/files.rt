@@ -1,4 +1,7 @@
 //! Files that are read.
+ghost use Rattle.std.specs.Prelude.{IfErr};
+ghost use Rattle.riichi_desk.specs.Failures.{IsUnopened};
+
 use crate::failure::Failure;
 use desk_score::ScoreFault;
 use std::rt::Files;
@@ -8,7 +11,9 @@ use std::{fs, io};
 pub const INPUT: &str = "-";
 
 /// Opens a file to be read.
-pub fn open_file<'a, R: Files>(rt: &R, file: &'a str) -> Result<R::File, Failure<'a>> {
+pub fn open_file<'a, R: Files>(rt: &R, file: &'a str) -> Result<R::File, Failure<'a>>
+    ensures { IfErr result (IsUnopened file.now) }
+{
     match fs::open(rt, file) {
         Ok(opened) => Ok(opened),
         Err(error) => Err(match error.kind() {

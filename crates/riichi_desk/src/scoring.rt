@@ -1,5 +1,6 @@
 //! The command `score`: files of hands, each a table.
-ghost use Rattle.std.specs.Prelude.{◌≡◌, ◌<◌, ℕ, List, Err, IfOk, IfErr, length, map, nat_lt, option_map};
+ghost use Rattle.std.specs.Prelude.{◌≡◌, ◌<◌, ℕ, List, None, Some, Err, IfOk, IfErr, length, nat_lt, if◌then◌else◌};
+ghost use Rattle.desk_cli.specs.Requests.{texts};
 ghost use Rattle.desk_lines.specs.Streams.{WritesAll};
 ghost use Rattle.desk_score.specs.Score.{AllGive, score_by, score_report};
 ghost use Rattle.desk_score.specs.declared.score_fault.ScoreFault.{ScoreFault};
@@ -32,32 +33,41 @@ pub fn score_files<'a, R: Files + Print + Eprint + Clock + Threads + Sync + Allo
 ) -> Result<bool, Failure<'a>>
     ensures { 64 < length files.now → result ≡ Err (Failure.Fault ScoreFault.Range) }
 {
-    if files.len() > MOST_FILES {
+    if are_too_many(files) {
         return Err(Failure::Fault(ScoreFault::Range));
     }
     let readers = open_files(rt, notes, progress, rules, files)?;
     let mut writer = ToWriter::new(notes.output(rt));
-    let names = if is_numbered { Some(files) } else { None };
-    score_readers(rt, rules, names, readers, workers, &mut writer)
+    score_readers(rt, rules, files, is_numbered, readers, workers, &mut writer)
 }
 
-/// Answers the texts that readers give, each a table, and which may be named: whether a line is refused.
+/// Whether there are more files than tables may be.
+fn are_too_many(files: &[&str]) -> bool
+    ensures { result ≡ nat_lt MOST_FILES (length files.now) }
+{
+    files.len() > MOST_FILES
+}
+
+/// Answers the texts that readers give, each a table, where it is wanted with the names of the files and the numbers of their
+/// lines: whether a line is refused.
 fn score_readers<'a, S: Source + Drop, W: Sink, R: Threads + Sync + AllocGlobal>(
     rt: &R,
     rules: Rules,
-    names: Option<&[&str]>,
+    files: &[&str],
+    is_numbered: bool,
     readers: Vec<S>,
     workers: u32,
     writer: &mut W,
 ) -> Result<bool, Failure<'a>>
-    ensures ok { let told = option_map (λ names. map (λ name. name.now) names.now) names.entry in
+    ensures ok { let names = if is_numbered then Some (texts files.now) else None in
         IfOk result (λ is_refused. (texts : List (List ℕ))
         × AllGive ⟦<S as Source>⟧ readers.items texts
-        × WritesAll ⟦<W as Sink>⟧ writer.old writer.new (score_by told rules texts)
+        × WritesAll ⟦<W as Sink>⟧ writer.old writer.new (score_by names rules texts)
         × (is_refused ≡ nat_lt 0 (score_report rules texts).refused)) }
     ensures failed { IfErr result
         (λ failure. (fault : ScoreFault) × (failure ≡ Failure.Fault fault)) }
 {
+    let names = if is_numbered { Some(files) } else { None };
     let report = score_text_with(rt, rt.alloc(), rules, names, readers, workers, writer)?;
     Ok(report.refused > 0)
 }
