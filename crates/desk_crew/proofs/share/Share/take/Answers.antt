@@ -23,9 +23,9 @@ returns-then-index-number-clause-taken g c =
     let same : piece ≡ c.index.result.now = c.index_mut.ensures.value ∙ get_or_default pieces place piece c.index.result.now within ∙ sym c.index.ensures in
     taken may c.args.rules c.args.text.now c.args.size c.args.number piece c.take.result c.take.new.room.items
     (subst (HasAnswers may c.args.rules c.args.text.now c.args.size) (sym c.index_mut.ensures.value) (answered g (goal.at.returns-then-index-number-clause-taken g c).After-take place piece within))
-    (ap (λ (p : Piece). p.number) same ∙ c.if-index-number.true) c.take.ensures.report.0 (ap (λ v. v.items) c.take.ensures.answers)
+    (ap (λ (p : Piece). p.number) same ∙ c.if-index-number.true) c.take.ensures.tally.0 (ap (λ v. v.items) c.take.ensures.answers)
 
 pub returns-then-index-number-clause-left : goal.returns-then-index-number-clause-left
 returns-then-index-number-clause-left g c =
     All-set (HasAnswers g.A.Responder.may_tell c.args.rules c.args.text.now c.args.size) c.loop-place.self.pieces.items c.loop-place.place c.take.new.self
-    (claims_nothing g.A.Responder.may_tell c.args.rules c.args.text.now c.args.size c.take.new.self c.take.ensures.report.1) (answered g (goal.at.returns-then-index-number-clause-left g c).After-take)
+    (claims_nothing g.A.Responder.may_tell c.args.rules c.args.text.now c.args.size c.take.new.self c.take.ensures.tally.1) (answered g (goal.at.returns-then-index-number-clause-left g c).After-take)
