@@ -194,6 +194,9 @@ row 1 $'refused H2\n'"$ready"$'\nrefused H2' 'standard input: line 3 sets no pro
 told 'a text is told once' 1 "$("$program" line < "$room/input" 2>&1 > /dev/null | grep -c .)"
 told 'each text of a score is told' 2 "$("$program" score "$room/input" "$room/input" 2>&1 > /dev/null | grep -c 'under profile 1')"
 told 'an explained text is told' 1 "$("$program" explain --file "$room/input" 2>&1 > /dev/null | grep -c 'line 3 sets no profile')"
+for words in '--workers 4' --number --json; do
+  told "a text is told with $words" 1 "$("$program" line $words < "$room/input" 2>&1 > /dev/null | grep -c 'standard input: line 3 sets no profile')"
+done
 printf 'rules 2\nwaits 1112345678999m\nrules 1' > "$room/input"
 row 1 "$ready"$'\nrefused H2' 'line 3 sets no profile: the lines are answered under profile 2' line
 printf ' rules  2 \r\n# rules 1\nwaits 1112345678999m' > "$room/input"

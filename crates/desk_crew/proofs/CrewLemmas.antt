@@ -1,29 +1,34 @@
 -- The lines of a stream once those of one more round are answered.
-use Rattle.std.proofs.Common.{◌≡◌, ℕ, ◌<◌, length, arith, inl, inr, List, [], ◌∷◌, ◌++◌, map, cond, Option, Some, None, refl, sym, subst, ◌∙◌, ap}
+use Rattle.std.proofs.Common.{◌≡◌, ℕ, suc, ◌+◌, ◌<◌, length, length-append, arith, inl, inr, List, [], ◌∷◌, ◌++◌, map, true, false, cond, Option, Some, None, refl, sym, subst, ◌∙◌, ap}
 use Rattle.std.proofs.lemmas.List.{append-nil, with_items_is}
 use Rattle.std.specs.Global.{Vec}
 use Rattle.std.specs.Vec.{with_items}
-use Rattle.std.specs.Prelude.{is_some, unwrap_or, IfSome}
+use Rattle.std.specs.List.{position_from}
+use Rattle.std.specs.Prelude.{is_some, unwrap_or, option_map, IfSome}
 use Rattle.riichi_hand.specs.Rules.{Rules}
 use Rattle.desk_lines.specs.declared.fault.DeskFault.{DeskFault}
 use Rattle.desk_lines.specs.declared.fault.DeskFault.TheVariants.{Read, Write, Memory}
-use Rattle.desk_lines.specs.declared.report.DeskReport.{DeskReport}
+use Rattle.desk_lines.specs.declared.report.TextReport.{TextReport}
+use Rattle.desk_lines.specs.declared.tally.Tally.{Tally}
 use Rattle.desk_lines.specs.LineAnswer.{line_kind, outcome_kind}
 use Rattle.desk_lines.specs.LineAnswers.{report_on}
 use Rattle.desk_lines.specs.LongLines.{AreAlike, long_outcome, long_profile}
-use Rattle.desk_lines.specs.Profile.{profile_of, rules_of, record_lines}
+use Rattle.desk_lines.specs.Profile.{profile_of, first_number, rules_of, record_lines}
 use Rattle.desk_lines.specs.Reading.{AreToldAs}
-use Rattle.desk_lines.specs.Records.{AnswerKind, AreTold, AnswerRecords, rules_after, next_profile, records_in}
+use Rattle.desk_lines.specs.Records.{AnswerKind, AreTold, AnswerRecords, rules_after, next_profile, records_in, sets_profile}
+use Rattle.desk_lines.specs.Slips.{both_tallies, empty_tally, first_slip, is_like_profile, slip_in, tally_of, told_slip}
 use Rattle.desk_lines.specs.Streams.{WritesAll, StopsWriting}
 use Rattle.desk_lines.specs.Told.{Stops}
-use Rattle.desk_lines.specs.Telling.{text_of, report_of, IsToldAs}
+use Rattle.desk_lines.specs.Telling.{text_of, both_reports, report_of, IsToldAs}
 use Rattle.desk_lines.proofs.AnswerLemmas.{same_as_told, record_lines-more}
+use Rattle.desk_lines.proofs.NumberLemmas.{next_number}
+use Rattle.desk_lines.proofs.SlipLemmas.{position-append, position-later, slip_as, text_report_is}
 use Rattle.desk_lines.proofs.StreamLemmas.{WritesAll_nil, WritesAll-trans, StopsWriting-after}
 use Rattle.desk_lines.proofs.TellingLemmas.{text_of_append}
 use Rattle.desk_io.specs.declared.sink.Sink.{Ghosts as OfSink}
-use Rattle.desk_crew.specs.Crew.{Stands, Stopped, Waits}
+use Rattle.desk_crew.specs.Crew.{IsAnswered, Stands, Stopped, Waits}
 use Rattle.desk_crew.specs.declared.standing.Standing.{Standing}
-use Rattle.desk_crew.specs.Pieces.{AreGathered, both_reports}
+use Rattle.desk_crew.specs.Pieces.{AreGathered, begun_tally, stream_tally}
 use Rattle.desk_crew.proofs.PieceLemmas.{AreTold-append, counted-append, none-both}
 
 module _ (Answers : AnswerKind) (alike : AreAlike Answers) where
@@ -112,17 +117,72 @@ all_counted given rules (line ∷ lines) hand next as_these set =
     ap (λ ls. report_of (map (line_kind all) ls)) (record_lines-more line lines next) ∙ counted-append all (record_lines (line ∷ lines)) next
     ∙ ap (both_reports (report_on given (line ∷ lines))) (ap report_of (sym (kinds_as all hand next as_these)) ∙ ap (λ (r : Rules). report_of (map (line_kind r) hand)) set)
 
+-- as many lines
+as_many : (lines others : List (List ℕ)) → AreToldAs 4096 lines others → length others ≡ length lines
+as_many [] [] as_these = refl
+as_many [] (other ∷ others) as_these = absurd as_these
+as_many (line ∷ lines) [] as_these = absurd as_these
+as_many (line ∷ lines) (other ∷ others) as_these = ap suc (as_many lines others as_these.1)
+
+all_lines : (given : Rules) (lines hand next : List (List ℕ)) → AreToldAs 4096 hand next
+    → length (lines ++ next) ≡ cond (sets_profile (rules_after given lines) hand) 1 (length lines) + length (records_in (rules_after given lines) hand)
+all_lines given [] [] [] as_these = refl
+all_lines given [] [] (other ∷ next) as_these = absurd as_these
+all_lines given [] (line ∷ hand) next as_these =
+    let all = line ∷ hand in
+    as_many all next as_these ∙ elim (is_some (profile_of line)) as (λ set. length all ≡ cond set 1 0 + length (cond set hand all)) [ true ↦ omega arith | false ↦ omega arith ]
+all_lines given (line ∷ lines) hand next as_these = length-append (line ∷ lines) next ∙ ap (λ n. length (line ∷ lines) + n) (as_many hand next as_these)
+
+-- the first line that looks like a profile line and sets none
+slip_on-as : (lines others : List (List ℕ)) → AreToldAs 4096 lines others → slip_in lines ≡ slip_in others
+slip_on-as [] [] as_these = refl
+slip_on-as [] (other ∷ others) as_these = absurd as_these
+slip_on-as (line ∷ lines) [] as_these = absurd as_these
+slip_on-as (line ∷ lines) (other ∷ others) as_these =
+    let same : profile_of line ≡ profile_of other = same_as_told profile_of long_profile line other as_these.0 in
+    ap (λ (p : Option Rules). position_from is_like_profile (cond (is_some p) 2 1) (cond (is_some p) lines (line ∷ lines))) same
+    ∙ elim (is_some (profile_of other)) as (λ set. position_from is_like_profile (cond set 2 1) (cond set lines (line ∷ lines)) ≡ position_from is_like_profile (cond set 2 1) (cond set others (other ∷ others))) [
+      | true ↦ slip_as 2 lines others as_these.1
+      | false ↦ slip_as 1 (line ∷ lines) (other ∷ others) as_these
+    ]
+
+all_slips : (given : Rules) (lines hand next : List (List ℕ)) → AreToldAs 4096 hand next
+    → slip_in (lines ++ next) ≡ first_slip (slip_in lines) (option_map (λ line. cond (sets_profile (rules_after given lines) hand) 1 (length lines) + line) (position_from is_like_profile 1 (records_in (rules_after given lines) hand)))
+all_slips given [] [] [] as_these = refl
+all_slips given [] [] (other ∷ next) as_these = absurd as_these
+all_slips given [] (line ∷ hand) next as_these =
+    let all = line ∷ hand in
+    sym (slip_on-as all next as_these)
+    ∙ elim (is_some (profile_of line)) as (λ set. position_from is_like_profile (cond set 2 1) (cond set hand all) ≡ option_map (λ line. cond set 1 0 + line) (position_from is_like_profile 1 (cond set hand all))) [
+      | true ↦ position-later is_like_profile 1 1 hand
+      | false ↦ position-later is_like_profile 0 1 all
+    ]
+all_slips given (line ∷ lines) hand next as_these =
+    let all = line ∷ lines in
+    let first = first_number all in
+    ap (position_from is_like_profile first) (record_lines-more line lines next) ∙ position-append is_like_profile first (record_lines all) next
+    ∙ ap (first_slip (slip_in all)) (ap (λ n. position_from is_like_profile n next) (sym (next_number line lines)) ∙ sym (slip_as (length all + 1) hand next as_these) ∙ position-later is_like_profile (length all) 1 hand)
+
+-- the next records come to what they do, beside those before
+all_tallied : (given rules : Rules) (lines hand next : List (List ℕ)) → AreToldAs 4096 hand next → IfSome (next_profile given (rules_after given lines) hand) (λ set. set ≡ rules)
+    → stream_tally given (lines ++ next) ≡ both_tallies (begun_tally (sets_profile (rules_after given lines) hand) (stream_tally given lines)) (tally_of rules (records_in (rules_after given lines) hand))
+all_tallied given rules lines hand next as_these set =
+    let counts = all_counted given rules lines hand next as_these set in
+    let many = all_lines given lines hand next as_these in
+    let slip = all_slips given lines hand next as_these in
+    λ i. record { counts = counts i; lines = many i; slip = slip i }
+
 module _ {W : Type 0} (Answers : AnswerKind) (sink : OfSink W) (start : W) (given : Rules) where
   -- before the first line
-  pub Waits-none : (now : Standing) (waiting : List ℕ) → waiting ≡ [] → now.profile ≡ None → now.report ≡ report_of [] → Waits Answers sink start given [] now start waiting
-  Waits-none now waiting none profile report = record { told = []; are_told = refl; written = []; parts = sym none; writes = WritesAll_nil sink start; report_is = report; profile = profile }
+  pub Waits-none : (now : Standing) (waiting : List ℕ) → waiting ≡ [] → now.profile ≡ None → now.tally ≡ empty_tally → Waits Answers sink start given [] now start waiting
+  Waits-none now waiting none profile tally = record { told = []; are_told = refl; written = []; parts = sym none; writes = WritesAll_nil sink start; tally_is = tally; profile = profile }
 
   -- the next lines were answered
   pub Waits-more : AreAlike Answers → (rules : Rules) (lines hand next records : List (List ℕ)) (old begun new : Standing) (writer : W) (waiting : List ℕ) → AreToldAs 4096 hand next → Stands Answers sink start given lines old writer
-      → begun.profile ≡ next_profile given old.profile hand → IfSome begun.profile (λ set. set ≡ rules) → records ≡ records_in old.profile hand → begun.report ≡ old.report
-      → AreGathered Answers rules records waiting begun.report new.report → new.profile ≡ begun.profile → Waits Answers sink start given (lines ++ next) new writer waiting
-  Waits-more alike rules lines hand next records old begun new writer waiting as_these stands profile set are_records report gathered same =
-      let first = stands.answered in
+      → begun.profile ≡ next_profile given old.profile hand → IfSome begun.profile (λ set. set ≡ rules) → records ≡ records_in old.profile hand → begun.tally ≡ begun_tally (sets_profile old.profile hand) old.tally
+      → AreGathered Answers rules records waiting begun.tally new.tally → new.profile ≡ begun.profile → Waits Answers sink start given (lines ++ next) new writer waiting
+  Waits-more alike rules lines hand next records old begun new writer waiting as_these stands profile set are_records tally gathered same =
+      let first = stands in
       let profile_is : begun.profile ≡ next_profile given (rules_after given lines) hand = profile ∙ ap (λ (p : Option Rules). next_profile given p hand) stands.profile in
       let set_now = subst (λ (p : Option Rules). IfSome p (λ r. r ≡ rules)) profile_is set in
       let records_are : records ≡ records_in (rules_after given lines) hand = are_records ∙ ap (λ (p : Option Rules). records_in p hand) stands.profile in
@@ -132,35 +192,44 @@ module _ {W : Type 0} (Answers : AnswerKind) (sink : OfSink W) (start : W) (give
         written = text_of first.told;
         parts = text_of_append first.told gathered.told ∙ ap (λ t. text_of first.told ++ t) (sym gathered.text_is);
         writes = first.writes;
-        report_is = gathered.report_is ∙ ap (λ (r : DeskReport). both_reports r (report_of (map (line_kind rules) records))) (report ∙ first.report_is)
-            ∙ ap (λ ls. both_reports (report_on given lines) (report_of (map (line_kind rules) ls))) records_are ∙ sym (all_counted given rules lines hand next as_these set_now);
+        tally_is = gathered.tally_is ∙ ap (λ (t : Tally). both_tallies t (tally_of rules records)) (tally ∙ ap (λ (t : Tally). begun_tally (sets_profile old.profile hand) t) first.tally_is
+            ∙ ap (λ (p : Option Rules). begun_tally (sets_profile p hand) (stream_tally given lines)) stands.profile)
+            ∙ ap (λ ls. both_tallies (begun_tally (sets_profile (rules_after given lines) hand) (stream_tally given lines)) (tally_of rules ls)) records_are ∙ sym (all_tallied given rules lines hand next as_these set_now);
         profile = same ∙ profile_is ∙ sym (profile_next given lines hand next as_these);
       }
 
   -- nothing waits
   pub Waits-nothing : (lines : List (List ℕ)) (now new : Standing) (writer : W) (waiting : List ℕ) → new ≡ now → waiting ≡ [] → Stands Answers sink start given lines now writer → Waits Answers sink start given lines new writer waiting
   Waits-nothing lines now new writer waiting same none stands =
-      let first = stands.answered in
+      let first = stands in
       record {
         told = first.told;
         are_told = first.are_told;
         written = text_of first.told;
         parts = sym (ap (λ (t : List ℕ). text_of first.told ++ t) none ∙ append-nil (text_of first.told));
         writes = first.writes;
-        report_is = ap (λ (s : Standing). s.report) same ∙ first.report_is;
+        tally_is = ap (λ (s : Standing). s.tally) same ∙ first.tally_is;
         profile = ap (λ (s : Standing). s.profile) same ∙ stands.profile;
       }
 
   -- what waited was written
   pub Stands-now : (lines : List (List ℕ)) (now : Standing) (old new : W) (waiting : List ℕ) → Waits Answers sink start given lines now old waiting → WritesAll sink old new waiting → Stands Answers sink start given lines now new
   Stands-now lines now old new waiting waits writes = record {
-    answered = record {
-      told = waits.told;
-      are_told = waits.are_told;
-      writes = subst (λ (text : List ℕ). WritesAll sink start new text) (sym waits.parts) (WritesAll-trans sink start old new waits.written waiting waits.writes writes);
-      report_is = waits.report_is;
-    };
+    told = waits.told;
+    are_told = waits.are_told;
+    writes = subst (λ (text : List ℕ). WritesAll sink start new text) (sym waits.parts) (WritesAll-trans sink start old new waits.written waiting waits.writes writes);
+    tally_is = waits.tally_is;
     profile = waits.profile;
+  }
+
+  -- the report on them
+  pub Answered-now : (lines : List (List ℕ)) (now : Standing) (writer : W) (report : TextReport) → Stands Answers sink start given lines now writer → report.counts ≡ now.tally.counts
+      → report.slip ≡ told_slip (unwrap_or now.profile given) now.tally.slip → IsAnswered Answers sink start writer given lines report
+  Answered-now lines now writer report stands counts slip = record {
+    told = stands.told;
+    are_told = stands.are_told;
+    writes = stands.writes;
+    report_is = text_report_is given now.profile now.tally.slip lines now.tally.counts report stands.profile (ap (λ (t : Tally). t.counts) stands.tally_is) (ap (λ (t : Tally). t.slip) stands.tally_is) counts slip;
   }
 
   stops_after : (old new : W) (fault : DeskFault) (text more : List ℕ) → WritesAll sink start old text → Stops sink old new fault more → Stops sink start new fault (text ++ more)
@@ -190,7 +259,7 @@ module _ {W : Type 0} (Answers : AnswerKind) (sink : OfSink W) (start : W) (give
 
   -- memory was wanted after these lines
   pub Stopped-memory : (lines more : List (List ℕ)) (now : Standing) (writer : W) → Stands Answers sink start given lines now writer → Stopped Answers sink start writer given (lines ++ more) Memory
-  Stopped-memory lines more now writer stands = record { first = lines; others = more; parts = refl; told = stands.answered.told; are_told = stands.answered.are_told; stops = stands.answered.writes }
+  Stopped-memory lines more now writer stands = record { first = lines; others = more; parts = refl; told = stands.told; are_told = stands.are_told; stops = stands.writes }
 
 -- there are as many shares after a round as before
 pub still_some : {X : Type 0} (shares : Vec X) (others : List X) → length others ≡ shares.len → 0 < shares.len → 0 < length (with_items shares others).items

@@ -8,9 +8,9 @@ use Rattle.desk_lines.specs.declared.fault.DeskFault.TheVariants.{Read, Write, M
 use Rattle.desk_lines.specs.Lines.{cut_of, ended_lines, lines, last_line}
 use Rattle.desk_lines.specs.Reading.{AreToldAs, kept, with_end}
 use Rattle.desk_lines.specs.Records.{AnswerKind}
+use Rattle.desk_lines.specs.Slips.{empty_tally}
 use Rattle.desk_lines.specs.Streams.{Gives, FailsOrGoesOn, WritesAll}
 use Rattle.desk_lines.specs.Told.{Stops}
-use Rattle.desk_lines.specs.Telling.{report_of}
 use Rattle.desk_lines.proofs.CutLemmas.{ended_lines-more, last_told}
 use Rattle.desk_lines.proofs.ReadingLemmas.{told_more, keeps_more}
 use Rattle.desk_lines.proofs.StreamLemmas.{Gives-more}
@@ -37,7 +37,7 @@ last_so text held hand is_held is = subst (λ (all : List ℕ). AreToldAs 4096 (
 
 module _ {R W : Type 0} (May : AnswerKind) (source : OfSource R) (sink : OfSink W) (from : R) (start : W) (given : Rules) where
   -- before the first read
-  pub Ahead-new : (hand waiting : List ℕ) (now : Standing) → hand ≡ [] → waiting ≡ [] → now.profile ≡ None → now.report ≡ report_of [] → IsAhead May source sink from start given [] hand now waiting from start
+  pub Ahead-new : (hand waiting : List ℕ) (now : Standing) → hand ≡ [] → waiting ≡ [] → now.profile ≡ None → now.tally ≡ empty_tally → IsAhead May source sink from start given [] hand now waiting from start
   Ahead-new hand waiting now empty none profile report = record { bytes = []; gives = Gives-none source from; hand_is = empty; waits = Waits-none May sink start given now waiting none profile report }
 
   -- what is at hand stands for the lines that end
@@ -126,7 +126,7 @@ module _ {R W : Type 0} (May : AnswerKind) (source : OfSource R) (sink : OfSink 
   -- a read failed, or there were too many
   pub unread : (text held : List ℕ) (now : Standing) (reader : R) (writer : W) → IsBetween May source sink from start given text held now reader writer → FailsOrGoesOn source from reader → IsUnread May source sink from reader start writer given
   unread text held now reader writer between failed =
-      let answered = between.stands.answered in
+      let answered = between.stands in
       record { failed = failed; text = text; told = answered.told; gives = between.gives; are_told = answered.are_told; writes = answered.writes }
 
   -- the answer to the last line stopped

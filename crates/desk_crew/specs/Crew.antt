@@ -3,28 +3,32 @@ use Rattle.std.specs.Prelude.{◌≡◌, ℕ, List, ◌++◌}
 use Rattle.riichi_hand.specs.Rules.{Rules}
 use Rattle.desk_lines.specs.declared.fault.DeskFault.{DeskFault}
 use Rattle.desk_lines.specs.declared.fault.DeskFault.TheVariants.{Read, Write, Memory}
-use Rattle.desk_lines.specs.declared.report.DeskReport.{DeskReport}
-use Rattle.desk_lines.specs.LineAnswers.{report_on}
+use Rattle.desk_lines.specs.declared.report.TextReport.{TextReport}
 use Rattle.desk_lines.specs.Lines.{ended_lines}
 use Rattle.desk_lines.specs.Reading.{kept}
 use Rattle.desk_lines.specs.Records.{AnswerKind, AnswerRecords, rules_after}
+use Rattle.desk_lines.specs.Slips.{text_report}
 use Rattle.desk_lines.specs.Streams.{Gives, AreWhole, WritesAll, FailsOrGoesOn}
 use Rattle.desk_lines.specs.Told.{Stops}
 use Rattle.desk_lines.specs.Telling.{text_of}
 use Rattle.desk_io.specs.declared.sink.Sink.{Ghosts as OfSink}
 use Rattle.desk_io.specs.declared.source.Source.{Ghosts as OfSource}
 use Rattle.desk_crew.specs.declared.standing.Standing.{Standing}
+use Rattle.desk_crew.specs.Pieces.{stream_tally}
 
 -- These lines are answered, the answers written and counted.
-pub record IsAnswered {W : Type 0} (May : AnswerKind) (sink : OfSink W) (start new : W) (given : Rules) (lines : List (List ℕ)) (report : DeskReport) : Type 0 where
+pub record IsAnswered {W : Type 0} (May : AnswerKind) (sink : OfSink W) (start new : W) (given : Rules) (lines : List (List ℕ)) (report : TextReport) : Type 0 where
   pub told : List (List ℕ)
   pub are_told : AnswerRecords May given lines told
   pub writes : WritesAll sink start new (text_of told)
-  pub report_is : report ≡ report_on given lines
+  pub report_is : report ≡ text_report given lines
 
 -- The same, where the profile is known that they have set.
 pub record Stands {W : Type 0} (May : AnswerKind) (sink : OfSink W) (start : W) (given : Rules) (lines : List (List ℕ)) (now : Standing) (writer : W) : Type 0 where
-  pub answered : IsAnswered May sink start writer given lines now.report
+  pub told : List (List ℕ)
+  pub are_told : AnswerRecords May given lines told
+  pub writes : WritesAll sink start writer (text_of told)
+  pub tally_is : now.tally ≡ stream_tally given lines
   pub profile : now.profile ≡ rules_after given lines
 
 -- These lines are answered and counted, and their answers written but for the last, which wait.
@@ -34,7 +38,7 @@ pub record Waits {W : Type 0} (May : AnswerKind) (sink : OfSink W) (start : W) (
   pub written : List ℕ
   pub parts : text_of told ≡ written ++ waiting
   pub writes : WritesAll sink start writer written
-  pub report_is : now.report ≡ report_on given lines
+  pub tally_is : now.tally ≡ stream_tally given lines
   pub profile : now.profile ≡ rules_after given lines
 
 -- The first of these lines are answered, and their answers written as far as that was possible.

@@ -2,8 +2,8 @@
 ghost use Rattle.std.specs.Prelude.{◌≡◌, ◌+◌, ◌<◌, ◌≤◌, ◌++◌, ℕ, List, [], None, length, max, min, IfOk, IfErr, OnOk};
 ghost use Rattle.desk_lines.specs.Lines.{ended_lines, lines};
 ghost use Rattle.desk_lines.specs.Reading.{AreToldAs, kept, with_end};
+ghost use Rattle.desk_lines.specs.Slips.{empty_tally};
 ghost use Rattle.desk_lines.specs.Streams.{GivesAll, IsReadWithin, Writes};
-ghost use Rattle.desk_lines.specs.Telling.{report_of};
 ghost use Rattle.desk_crew.specs.Crew.{Stands, Waits, Stopped, IsAnswered, IsAhead, IsBetween, IsGivenUp, IsLeft};
 ghost use Rattle.desk_crew.specs.Pieces.{answers_in_rooms};
 ghost use Rattle.desk_crew.specs.Reading.{AreMoved, FindsEnd, IsStoppedBy, IsStuck};
@@ -15,7 +15,7 @@ use crate::round::answer_beside;
 use crate::share::Share;
 use crate::standing::Standing;
 use desk_io::{Sink, Source};
-use desk_lines::{DeskFault, DeskReport, Responder};
+use desk_lines::{DeskFault, Responder, TextReport};
 use riichi_hand::Rules;
 use std::alloc::{AllocError, Global};
 use std::mem::swap;
@@ -87,7 +87,7 @@ impl Crew {
         given: Rules,
         reader: &mut R,
         writer: &mut W,
-    ) -> Result<DeskReport, DeskFault>
+    ) -> Result<TextReport, DeskFault>
         // The reader was read to its end, and the answers to what it gave were written.
         ensures ok { IfOk result (λ report. (text : List ℕ)
             × GivesAll ⟦<R as Source>⟧ reader.old reader.new text
@@ -108,7 +108,7 @@ impl Crew {
     /// Before the first read of a stream.
     fn begin(&mut self)
         ensures new { (self.new.standing.profile ≡ None)
-            × (self.new.standing.report ≡ report_of []) }
+            × (self.new.standing.tally ≡ empty_tally) }
         ensures none { (self.new.text.items ≡ []) × ((answers_in_rooms self.new.waiting) ≡ []) }
         ensures left { self.new.ahead.left ≡ MOST_READS }
     {
@@ -128,7 +128,7 @@ impl Crew {
         writer: &mut W,
     ) -> Result<(), DeskFault>
         requires new { (self.old.standing.profile ≡ None)
-            × (self.old.standing.report ≡ report_of []) }
+            × (self.old.standing.tally ≡ empty_tally) }
         requires none { (self.old.text.items ≡ []) × ((answers_in_rooms self.old.waiting) ≡ []) }
         requires left { self.old.ahead.left ≡ MOST_READS }
         ensures ok { OnOk result ((text : List ℕ)
@@ -209,9 +209,9 @@ impl Crew {
             shares,
             &mut moving,
         )?;
-        let report = &mut self.standing.report;
+        let tally = &mut self.standing.tally;
         self.waiting
-            .gather::<A>(rules, records, size, self.shares.as_mut_slice(), report)?;
+            .gather::<A>(rules, records, size, self.shares.as_mut_slice(), tally)?;
         swap(&mut self.text, &mut self.ahead.text);
         Ok(stop)
     }
@@ -277,9 +277,9 @@ impl Crew {
         let shares = self.shares.as_mut_slice();
         answer_beside::<A, H, _, _>(rt, rules, records, size, &next, shares, &mut writing)?;
         self.ahead.hold(text)?;
-        let report = &mut self.standing.report;
+        let tally = &mut self.standing.tally;
         self.waiting
-            .gather::<A>(rules, records, size, self.shares.as_mut_slice(), report)?;
+            .gather::<A>(rules, records, size, self.shares.as_mut_slice(), tally)?;
         swap(&mut self.text, &mut self.ahead.text);
         Ok(())
     }
@@ -290,7 +290,7 @@ impl Crew {
         rt: &H,
         given: Rules,
         writer: &mut W,
-    ) -> Result<DeskReport, DeskFault>
+    ) -> Result<TextReport, DeskFault>
         requires none { (answers_in_rooms self.old.waiting) ≡ [] }
         ensures ok { IfOk result (λ report. (start : W) (text : List ℕ)
             → self.old.text.items ≡ kept 8194 text
@@ -306,7 +306,7 @@ impl Crew {
     {
         self.end_line()?;
         self.settle::<A, H, W>(rt, given, writer)?;
-        Ok(self.standing.report)
+        Ok(self.standing.report(given))
     }
 
     /// Ends the line at hand.

@@ -9,7 +9,7 @@ use crate::rooms::Rooms;
 use crate::round::take_piece;
 use crate::share::Share;
 use desk_io::Sink;
-use desk_lines::{DeskFault, DeskReport, Responder, write_all};
+use desk_lines::{DeskFault, Responder, Tally, write_all};
 use riichi_hand::Rules;
 
 impl Rooms {
@@ -23,19 +23,19 @@ impl Rooms {
     }
 
     /// Takes the answers to the pieces from the shares, in the order of the pieces, and counts them with others. A piece that
-    /// stands nowhere, or without a report, is one for which its thread had no memory.
+    /// stands nowhere, or without a tally, is one for which its thread had no memory.
     pub(crate) fn gather<A: Responder>(
         &mut self,
         rules: Rules,
         text: &[u8],
         size: usize,
         shares: &mut [Share],
-        report: &mut DeskReport,
+        tally: &mut Tally,
     ) -> Result<(), DeskFault>
         requires answered { All (HaveAnswers A.may_tell rules text.now size) shares.old }
         requires all { length text.now ≤ 64 * size }
         ensures ok { OnOk result (AreGathered A.may_tell rules (ended_lines text.now)
-            (answers_in_rooms self.new) report.old report.new) }
+            (answers_in_rooms self.new) tally.old tally.new) }
         ensures err { IfErr result (λ fault. fault ≡ DeskFault.Memory) }
     {
         for number in 0..self.rooms.len() {
@@ -43,7 +43,7 @@ impl Rooms {
             let Some(more) = take_piece::<A>(rules, text, size, shares, number, room) else {
                 return Err(DeskFault::Memory);
             };
-            *report = report.plus(more)?;
+            *tally = tally.plus(more)?;
         }
         Ok(())
     }

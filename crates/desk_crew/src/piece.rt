@@ -2,7 +2,7 @@
 ghost use Rattle.std.specs.Prelude.{◌≡◌, ◌<◌, ◌≤◌, ◌*◌, ◌^◌, [], None, length, IfOk};
 ghost use Rattle.desk_crew.specs.Pieces.{AreCounted, HasAnswers, lines_between};
 
-use desk_lines::{DeskReport, Responder, SuitMemo, answer_piece, ended_bytes};
+use desk_lines::{Responder, SuitMemo, Tally, answer_piece, ended_bytes};
 use riichi_hand::Rules;
 use std::alloc::{AllocError, Global};
 use std::mem::swap;
@@ -17,14 +17,14 @@ pub(crate) fn piece_size(text: &[u8]) -> usize
     text.len().div_ceil(PIECES)
 }
 
-/// The answers to the lines that end in one piece of a text, and how many these are, or none where there was no memory for
+/// The answers to the lines that end in one piece of a text, and what these lines come to, or none where there was no memory for
 /// them.
 #[derive(Drop)]
 pub(crate) struct Piece {
     /// Which piece it is, counted from 0.
     pub(crate) number: usize,
     pub(crate) answers: Vec<u8>,
-    pub(crate) report: Option<DeskReport>,
+    pub(crate) tally: Option<Tally>,
 }
 
 impl Piece {
@@ -32,7 +32,7 @@ impl Piece {
         Piece {
             number: 0,
             answers: Vec::new(alloc),
-            report: None,
+            tally: None,
         }
     }
 
@@ -56,22 +56,19 @@ impl Piece {
         self.number = number;
         self.answers.clear();
         if from == to {
-            self.report = Some(DeskReport {
-                answered: 0,
-                refused: 0,
-            });
+            self.tally = Some(Tally::of_none());
             return;
         }
-        self.report = self.answer_between::<A>(rules, text, from, to, rows).ok();
+        self.tally = self.answer_between::<A>(rules, text, from, to, rows).ok();
     }
 
-    /// Gives its answers away for a room, and its report.
-    pub(crate) fn take(&mut self, room: &mut Vec<u8>) -> Option<DeskReport>
-        ensures report { (result ≡ self.old.report) × (self.new.report ≡ None) }
+    /// Gives its answers away for a room, and what its lines come to.
+    pub(crate) fn take(&mut self, room: &mut Vec<u8>) -> Option<Tally>
+        ensures tally { (result ≡ self.old.tally) × (self.new.tally ≡ None) }
         ensures answers { room.new ≡ self.old.answers }
     {
         swap(&mut self.answers, room);
-        self.report.take()
+        self.tally.take()
     }
 
     /// Answers the lines of a text that end between two places.
@@ -82,7 +79,7 @@ impl Piece {
         from: usize,
         to: usize,
         rows: &mut SuitMemo,
-    ) -> Result<DeskReport, AllocError>
+    ) -> Result<Tally, AllocError>
         requires order { (from ≤ to) × (to ≤ length text.now) }
         requires fits { length text.now < 2 ^ 64 }
         requires none { self.old.answers.items ≡ [] }

@@ -5,7 +5,7 @@ ghost use Rattle.desk_crew.specs.Pieces.{AreCounted, HaveAnswers, IsWithout, edg
 ghost use denote.Param.Send.{IsSync};
 
 use crate::share::Share;
-use desk_lines::{DeskReport, Responder};
+use desk_lines::{Responder, Tally};
 use riichi_hand::Rules;
 use std::sync::atomic::AtomicUsize;
 use std::thread;
@@ -59,8 +59,8 @@ pub(crate) fn answer_beside<A: Responder + Send + Sync, H: Threads + Sync, G: Fn
     told
 }
 
-/// Gives the answers to the piece of a number away for a room, and its report, from whatever share has it; none where no share
-/// had memory for it.
+/// Gives the answers to the piece of a number away for a room, and what its lines come to, from whatever share has it; none where
+/// no share had memory for it.
 pub(crate) fn take_piece<A: Responder>(
     rules: Rules,
     text: &[u8],
@@ -68,7 +68,7 @@ pub(crate) fn take_piece<A: Responder>(
     shares: &mut [Share],
     number: usize,
     room: &mut Vec<u8>,
-) -> Option<DeskReport>
+) -> Option<Tally>
     requires { All (HaveAnswers A.may_tell rules text.now size) shares.old }
     ensures taken { IfSome result (AreCounted A.may_tell rules
         (lines_between text.now (edge text.now size number) (edge text.now size (number + 1)))

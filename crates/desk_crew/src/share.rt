@@ -3,7 +3,7 @@ ghost use Rattle.std.specs.Prelude.{◌≡◌, ◌+◌, ◌<◌, ◌^◌, length
 ghost use Rattle.desk_crew.specs.Pieces.{AreCounted, HaveAnswers, IsWithout, edge, lines_between};
 
 use crate::piece::{PIECES, Piece};
-use desk_lines::{DeskReport, Responder, SuitMemo};
+use desk_lines::{Responder, SuitMemo, Tally};
 use riichi_hand::Rules;
 use std::alloc::{AllocError, Global};
 use std::sync::atomic::{AtomicUsize, Ordering};
@@ -45,7 +45,7 @@ impl Share {
         }
     }
 
-    /// Gives the answers to the piece of a number away for a room, and its report, where that piece was answered here.
+    /// Gives the answers to the piece of a number away for a room, and what its lines come to, where that piece was answered here.
     pub(crate) fn take<A: Responder>(
         &mut self,
         rules: Rules,
@@ -53,7 +53,7 @@ impl Share {
         size: usize,
         number: usize,
         room: &mut Vec<u8>,
-    ) -> Option<DeskReport>
+    ) -> Option<Tally>
         requires { HaveAnswers A.may_tell rules text.now size self.old }
         ensures taken { IfSome result (AreCounted A.may_tell rules
             (lines_between text.now (edge text.now size number) (edge text.now size (number + 1)))

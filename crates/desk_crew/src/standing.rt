@@ -1,10 +1,11 @@
 //! How far a stream is answered.
-ghost use Rattle.std.specs.Prelude.{◌≡◌, None, [], IfSome};
+ghost use Rattle.std.specs.Prelude.{◌≡◌, None, IfSome, unwrap_or};
 ghost use Rattle.desk_lines.specs.Lines.{ended_lines};
-ghost use Rattle.desk_lines.specs.Records.{next_profile, records_in};
-ghost use Rattle.desk_lines.specs.Telling.{report_of};
+ghost use Rattle.desk_lines.specs.Records.{next_profile, records_in, sets_profile};
+ghost use Rattle.desk_lines.specs.Slips.{empty_tally, told_slip};
+ghost use Rattle.desk_crew.specs.Pieces.{begun_tally};
 
-use desk_lines::{DeskReport, next_records};
+use desk_lines::{Tally, TextReport, next_records};
 use riichi_hand::Rules;
 
 /// How far a stream is answered.
@@ -12,21 +13,19 @@ use riichi_hand::Rules;
 pub(crate) struct Standing {
     /// The profile of the stream, or none before its first line.
     pub(crate) profile: Option<Rules>,
-    pub(crate) report: DeskReport,
+    /// What its lines come to, the one that sets the profile too.
+    pub(crate) tally: Tally,
 }
 
 impl Standing {
     /// Before the first line.
     pub(crate) fn new() -> Standing
         ensures profile { result.profile ≡ None }
-        ensures report { result.report ≡ report_of [] }
+        ensures tally { result.tally ≡ empty_tally }
     {
         Standing {
             profile: None,
-            report: DeskReport {
-                answered: 0,
-                refused: 0,
-            },
+            tally: Tally::of_none(),
         }
     }
 
@@ -37,14 +36,31 @@ impl Standing {
         ensures profile { self.new.profile
             ≡ next_profile given self.old.profile (ended_lines text.now) }
         ensures rules { IfSome self.new.profile (λ rules. rules ≡ result.0) }
-        ensures same { self.new.report ≡ self.old.report }
+        ensures tally { self.new.tally
+            ≡ begun_tally (sets_profile self.old.profile (ended_lines text.now)) self.old.tally }
     {
         match next_records(given, self.profile, text) {
             None => (given, text),
-            Some((rules, records)) => {
-                self.profile = Some(rules);
-                (rules, records)
+            Some(next) => {
+                self.profile = Some(next.rules);
+                if next.sets_profile {
+                    self.tally.lines = 1;
+                }
+                (next.rules, next.text)
             }
         }
+    }
+
+    /// The report on the stream, whose profile is the given one where it sets none.
+    pub(crate) fn report(&self, given: Rules) -> TextReport
+        ensures counts { result.counts ≡ self.now.tally.counts }
+        ensures slip { result.slip
+            ≡ told_slip (unwrap_or self.now.profile given) self.now.tally.slip }
+    {
+        TextReport::new(
+            self.tally.counts,
+            self.tally.slip,
+            self.profile.unwrap_or(given),
+        )
     }
 }

@@ -5,7 +5,7 @@ mod facts;
 
 use super::*;
 use desk_io::{BytesIn, BytesOut};
-use desk_lines::{DeskFault, DeskReport, Objects, Plain, desk_text};
+use desk_lines::{DeskFault, DeskReport, Objects, Plain, SuitMemo, TextReport, desk_text_by};
 use facts::{holds, holds_in, same, same_in};
 use riichi_hand::Rules;
 use std::alloc::{AllocError, Global};
@@ -23,7 +23,7 @@ fn long_line(alloc: Global, len: usize) -> Result<Vec<u8>, AllocError> {
     Ok(line)
 }
 
-/// By so many threads and rounds of so many bytes the answers are those of `desk_text`.
+/// By so many threads and rounds of so many bytes the answers and the report are those of one.
 fn as_one<H: Threads + Sync + Abort>(
     rt: &H,
     alloc: Global,
@@ -33,7 +33,12 @@ fn as_one<H: Threads + Sync + Abort>(
     requires { 0 < most }
 {
     let mut writer: Room = BytesOut::new(1_000, None);
-    let report = desk_text(Rules::One, &mut BytesIn::new(text, most, None), &mut writer);
+    let report = desk_text_by::<Plain, SuitMemo, BytesIn, Room>(
+        &mut SuitMemo::in_value(),
+        Rules::One,
+        &mut BytesIn::new(text, most, None),
+        &mut writer,
+    );
     for (workers, enough) in [(1, 1), (2, 100), (4, 5_000), (16, 40)] {
         let mut reader = BytesIn::new(text, most, None);
         let mut many: Room = BytesOut::new(1_000, None);
@@ -62,6 +67,8 @@ fn small_texts(rt: HostRuntime) -> Result<(), Fail> {
         b"rules 2\r\nwin 123m456p789s11z22z on=2z by=ron\n",
         b"# a comment\nrules 2\nwaits 8z\r\n\r\nwaits 1112345678999m\r",
         b"waits 8z\nwaits 1112345678999m\nrules 2\nwin 123m456p789s11z22z on=2z by=ron seat=S round=E\nwaits 8z\r",
+        b" Rules 2\nwaits 8z\n",
+        b"rules 2\n# rules 1\nwaits 8z\n\xEF\xBB\xBFrules 1\nrules 1",
         b"rules 2\nrules 2\nwaits 8z\nwaits 1112345678999m\nshape 123456789m11348p\nwaits 1m",
     ] {
         as_one(&rt, alloc, text, 7)?;
@@ -150,7 +157,7 @@ fn objects(rt: HostRuntime) -> Result<(), Fail> {
             answered: 1,
             refused: 1,
         };
-        holds_in(&rt, &of_objects, report == Ok(both));
+        holds_in(&rt, &of_objects, report.map(|it| it.counts) == Ok(both));
         holds_in(&rt, &of_objects, writer.bytes().starts_with(b"{"));
     }
     Ok(())
@@ -217,7 +224,7 @@ fn by_three<H: Threads + Sync>(
     alloc: Global,
     reader: &mut BytesIn<'_>,
     writer: &mut Room,
-) -> Result<DeskReport, DeskFault> {
+) -> Result<TextReport, DeskFault> {
     let mut crew = Crew::of(alloc, 3, 40)?;
     crew.answer_text::<Plain, H, BytesIn, Room>(rt, Rules::One, reader, writer)
 }

@@ -65,7 +65,7 @@ alike_under : (Answers : AnswerKind) → AreAlike Answers → (rules : Option Ru
 alike_under Answers alike None line next answer long long_next is = is
 alike_under Answers alike (Some rules) line next answer long long_next is = alike rules line next answer long long_next is
 
-records_long : (given : Rules) (rules : Option Rules) (line : List ℕ) → 4096 < length line → record_rules given rules line ≡ Some (unwrap_or rules given)
+pub records_long : (given : Rules) (rules : Option Rules) (line : List ℕ) → 4096 < length line → record_rules given rules line ≡ Some (unwrap_or rules given)
 records_long given None line long = rw (long_profile line long) refl
 records_long given (Some rules) line long = refl
 
@@ -96,26 +96,15 @@ first_counted : (given : Rules) (line : List ℕ) (profile : Option Rules)
 first_counted given line None = report_of_more [] (line_kind given line)
 first_counted given line (Some rules) = refl
 
-report_on-last : (given : Rules) (lines : List (List ℕ)) (line : List ℕ) → report_on given (lines ++ line ∷ []) ≡ report_with (report_on given lines) (kind_under (record_rules given (rules_after given lines) line) line)
+pub report_on-last : (given : Rules) (lines : List (List ℕ)) (line : List ℕ) → report_on given (lines ++ line ∷ []) ≡ report_with (report_on given lines) (kind_under (record_rules given (rules_after given lines) line) line)
 report_on-last given [] line = first_counted given line (profile_of line)
 report_on-last given (first ∷ lines) line =
     let kind = line_kind (rules_of given (first ∷ lines)) in
     let records = record_lines (first ∷ lines) in
     ap (λ ls. report_of (map kind ls)) (record_lines-more first lines (line ∷ [])) ∙ ap report_of (map-append kind records (line ∷ [])) ∙ report_of_more (map kind records) (kind line)
 
-kind_long : (given : Rules) (rules : Option Rules) (line : List ℕ) → 4096 < length line → kind_under (record_rules given rules line) line ≡ Refused
+pub kind_long : (given : Rules) (rules : Option Rules) (line : List ℕ) → 4096 < length line → kind_under (record_rules given rules line) line ≡ Refused
 kind_long given rules line long = ap (λ (r : Option Rules). kind_under r line) (records_long given rules line long) ∙ ap outcome_kind (long_outcome (unwrap_or rules given) line long)
-
--- one more line was read, and counted
-pub AreRead_line : {A : Type 0} (old new : Records A) (line next : List ℕ) (lines : List (List ℕ)) (report : DeskReport) (kind : LineKind) → IsToldAs 4096 line next → AreRead old lines report
-    → new.given ≡ old.given → new.rules ≡ Some (rules_by old.given old.rules line) → kind ≡ kind_under (record_rules old.given old.rules line) line → AreRead new (lines ++ next ∷ []) (report_with report kind)
-AreRead_line old new line next lines report kind as_this read given rules is =
-    let after = rules_after old.given lines in
-    let same = same_as_told (λ l. kind_under (record_rules old.given after l) l) (kind_long old.given after) line next as_this in (
-      rules_read old new line next lines as_this read.0 given rules,
-      ap (λ (r : DeskReport). report_with r kind) read.1 ∙ ap (report_with (report_on old.given lines)) (is ∙ ap (λ (r : Option Rules). kind_under (record_rules old.given r line) line) read.0 ∙ same)
-          ∙ sym (report_on-last old.given lines next) ∙ ap (λ (g : Rules). report_on g (lines ++ next ∷ [])) (sym given),
-    )
 
 -- one more line was answered as its records are
 pub AnswerRecords-line : {A : Type 0} (Answers : AnswerKind) → AreAlike Answers → (old new : Records A) (line next : List ℕ) (answer : Option (List ℕ)) (lines told : List (List ℕ)) → IsToldAs 4096 line next → old.rules ≡ rules_after old.given lines

@@ -5,8 +5,8 @@ use Rattle.std.proofs.Math.Seq.{take-append_seam}
 use Rattle.std.specs.Prelude.{is_some, unwrap_or}
 use Rattle.riichi_hand.specs.Rules.{Rules}
 use Rattle.desk_lines.specs.LongLines.{AreAlike}
-use Rattle.desk_lines.specs.Numbered.{AreNumbered, NumberRecords, first_number, with_number}
-use Rattle.desk_lines.specs.Profile.{profile_of, rules_of, record_lines}
+use Rattle.desk_lines.specs.Numbered.{AreNumbered, NumberRecords, with_number}
+use Rattle.desk_lines.specs.Profile.{profile_of, first_number, rules_of, record_lines}
 use Rattle.desk_lines.specs.Records.{rules_after, AnswerKind, IsToldUnder, IsToldBy, AreTold, AnswerRecords}
 use Rattle.desk_lines.specs.Telling.{answers_in, has_answer, line_by, IsToldAs}
 use Rattle.desk_lines.specs.declared.line_kind.LineKind.{LineKind}
@@ -38,7 +38,7 @@ first_numbered Answers given line told answer (Some rules) none is =
     ap (λ (front : List (ℕ × List ℕ)). front ++ answers_in (with_number 1 answer)) none ∙ ap (λ (a : Option (List ℕ)). answers_in (with_number 1 a)) is
 
 -- the number of the line behind these
-next_number : (first : List ℕ) (lines : List (List ℕ)) → length (first ∷ lines) + 1 ≡ first_number (first ∷ lines) + length (record_lines (first ∷ lines))
+pub next_number : (first : List ℕ) (lines : List (List ℕ)) → length (first ∷ lines) + 1 ≡ first_number (first ∷ lines) + length (record_lines (first ∷ lines))
 next_number first lines =
     elim (is_some (profile_of first)) as (λ test. length (first ∷ lines) + 1 ≡ cond test 2 1 + length (cond test lines (first ∷ lines))) [ true ↦ omega arith | false ↦ omega arith ]
 

@@ -1,7 +1,7 @@
 -- One more answer, and the front of a line.
-use Rattle.std.proofs.Common.{◌≡◌, ℕ, ◌+◌, ◌≤◌, inl, inr, List, [], ◌∷◌, ◌++◌, Bool, true, false, cond, nat_eq, length, take, Option, Some, None, sym, ◌∙◌, ap, arith, zero-add, add-zero}
+use Rattle.std.proofs.Common.{◌≡◌, ℕ, zero, suc, ◌+◌, ◌<◌, ◌≤◌, inl, inr, List, [], ◌∷◌, ◌++◌, Bool, true, false, cond, nat_eq, length, take, Option, Some, None, refl, sym, ◌∙◌, ap, arith, zero-add, add-zero}
 use Rattle.std.specs.Prelude.{count_by}
-use Rattle.std.proofs.lemmas.List.{append-nil, take_all, length-take}
+use Rattle.std.proofs.lemmas.List.{append-nil, take_all, take-take, length-take}
 use Rattle.std.proofs.lemmas.Grind.{flat_map-append}
 use Rattle.std.proofs.lemmas.List.Sums.{sum_by-append}
 use Rattle.std.proofs.lemmas.Bool.{cases_lt}
@@ -41,18 +41,27 @@ without_return_short [] = omega arith
 without_return_short (byte ∷ []) = elim (nat_eq byte 13) as (λ test. 1 ≤ length (cond test [] (byte ∷ [])) + 1) [ true ↦ omega arith | false ↦ omega arith ]
 without_return_short (byte ∷ next ∷ bytes) = let shorter = without_return_short (next ∷ bytes) in omega arith
 
+without_return_front : (n : ℕ) (line : List ℕ) → n < length line → take n (without_return line) ≡ take n line
+without_return_front zero line longer = refl
+without_return_front (suc n) [] longer = absurd (omega (arith, longer))
+without_return_front (suc n) (byte ∷ []) longer = absurd (omega (arith, longer))
+without_return_front (suc n) (byte ∷ next ∷ bytes) longer = ap (λ (front : List ℕ). byte ∷ front) (without_return_front n (next ∷ bytes) (omega (arith, longer)))
+
 -- A line of which only a front is held has the answer of the whole: it is no longer than what is held, or so long that it is answered as any such line.
 pub told_by_front : (most room : ℕ) → most + 2 ≤ room → (line other : List ℕ) → take room line ≡ take room other → IsToldAs most (without_return line) (without_return other)
 told_by_front most room enough line other same = elim (cases_lt (most + 1) (length line)) as (λ _. IsToldAs most (without_return line) (without_return other)) [
   | inl longer ↦
       let kept = length-take room line in let kept_other = length-take room other in let lengths = ap length same in
       let front = without_return_short line in let front_other = without_return_short other in
-      inr (omega arith, omega arith)
+      let long : most < length line = omega arith in let long_other : most < length other = omega arith in
+      inr (
+        omega arith,
+        omega arith,
+        without_return_front most line long ∙ sym (take-take most room line (omega arith)) ∙ ap (take most) same ∙ take-take most room other (omega arith) ∙ sym (without_return_front most other long_other),
+      )
   | inr short ↦
       let kept = length-take room line in let kept_other = length-take room other in let lengths = ap length same in
       let whole : take room line ≡ line = take_all room line (omega arith) in
       let whole_other : take room other ≡ other = take_all room other (omega arith) in
       inl (ap without_return (sym whole ∙ same ∙ whole_other))
 ]
-
-pub ruleset answer_piece_facts = (text_of_more, report_of_more)

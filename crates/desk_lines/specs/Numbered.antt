@@ -1,7 +1,7 @@
 -- Answers with the numbers of their lines.
-use Rattle.std.specs.Prelude.{◌≡◌, ℕ, suc, List, [], ◌∷◌, ◌++◌, Option, is_some, if◌then◌else◌, codes, decimal, option_map}
+use Rattle.std.specs.Prelude.{◌≡◌, ℕ, suc, List, [], ◌∷◌, ◌++◌, Option, codes, decimal, option_map}
 use Rattle.riichi_hand.specs.Rules.{Rules}
-use Rattle.desk_lines.specs.Profile.{profile_of, rules_of, record_lines}
+use Rattle.desk_lines.specs.Profile.{first_number, rules_of, record_lines}
 use Rattle.desk_lines.specs.Records.{AnswerKind}
 use Rattle.desk_lines.specs.Telling.{answers_in}
 
@@ -15,11 +15,6 @@ AreNumbered Answers rules number [] told = told ≡ []
 AreNumbered Answers rules number (line ∷ lines) told =
     (answer : Option (List ℕ)) × (others : List (ℕ × List ℕ)) × Answers rules line answer
     × (told ≡ answers_in (with_number number answer) ++ others) × AreNumbered Answers rules (suc number) lines others
-
--- the number of the first line that can be a record, where the first of all has the number 1
-abbrev pub first_number : List (List ℕ) → ℕ
-first_number [] = 1
-first_number (line ∷ lines) = if is_some (profile_of line) then 2 else 1
 
 -- these texts answer the records among the lines of a stream, under its profile, each with the number of its line
 abbrev pub NumberRecords : AnswerKind → Rules → List (List ℕ) → List (ℕ × List ℕ) → Type 0

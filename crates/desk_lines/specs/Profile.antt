@@ -29,6 +29,11 @@ abbrev pub record_lines : List (List ℕ) → List (List ℕ)
 record_lines [] = []
 record_lines (line ∷ lines) = if is_some (profile_of line) then lines else line ∷ lines
 
+-- the number of the first line that can be a record, where the first of all has the number 1
+abbrev pub first_number : List (List ℕ) → ℕ
+first_number [] = 1
+first_number (line ∷ lines) = if is_some (profile_of line) then 2 else 1
+
 -- the profile once one more line was read; `None` before the first line
 abbrev pub rules_by : Rules → Option Rules → List ℕ → Rules
 rules_by given None line = unwrap_or (profile_of line) given

@@ -1,5 +1,5 @@
 -- What is kept of the record lines that were answered.
-use Rattle.std.specs.Prelude.{◌≡◌, ℕ, List, [], ◌∷◌, ◌++◌, Option, None, Some, is_some}
+use Rattle.std.specs.Prelude.{◌≡◌, ℕ, List, [], ◌∷◌, ◌++◌, Bool, false, Option, None, Some, is_some}
 use Rattle.riichi_hand.specs.Rules.{Rules}
 use Rattle.desk_lines.specs.declared.line_kind.LineKind.{LineKind}
 use Rattle.desk_lines.specs.declared.line_kind.LineKind.TheVariants.{NoRecord}
@@ -7,7 +7,8 @@ use Rattle.desk_lines.specs.declared.records.Records.{Records}
 use Rattle.desk_lines.specs.declared.report.DeskReport.{DeskReport}
 use Rattle.desk_lines.specs.LineAnswer.{line_kind}
 use Rattle.desk_lines.specs.LineAnswers.{report_on}
-use Rattle.desk_lines.specs.Profile.{rules_of, record_lines, record_rules}
+use Rattle.desk_lines.specs.Profile.{profile_of, rules_of, record_lines, record_rules}
+use Rattle.desk_lines.specs.Slips.{slip_in}
 use Rattle.desk_lines.specs.Telling.{answers_in, has_answer, with_line_feed}
 
 -- the profile once these lines were read, and none before the first
@@ -24,6 +25,12 @@ next_profile given (Some rules) lines = Some rules
 abbrev pub records_in : Option Rules → List (List ℕ) → List (List ℕ)
 records_in None lines = record_lines lines
 records_in (Some rules) lines = lines
+
+-- the first of the next lines sets the profile
+abbrev pub sets_profile : Option Rules → List (List ℕ) → Bool
+sets_profile None [] = false
+sets_profile None (line ∷ lines) = is_some (profile_of line)
+sets_profile (Some rules) lines = false
 
 -- What a kind of answer is: which texts may answer a record line under a profile, or none.
 abbrev pub AnswerKind : Type 1
@@ -61,6 +68,6 @@ AreTold Answers rules (line ∷ lines) told =
 abbrev pub AnswerRecords : AnswerKind → Rules → List (List ℕ) → List (List ℕ) → Type 0
 AnswerRecords Answers given lines told = AreTold Answers (rules_of given lines) (record_lines lines) told
 
--- the lines were read, and counted
+-- the lines were read, and counted, and the first that looks like a profile line and sets none was noted
 abbrev pub AreRead : {A : Type 0} → Records A → List (List ℕ) → DeskReport → Type 0
-AreRead records lines report = (records.rules ≡ rules_after records.given lines) × (report ≡ report_on records.given lines)
+AreRead records lines report = (records.rules ≡ rules_after records.given lines) × (report ≡ report_on records.given lines) × (records.slip ≡ slip_in lines)

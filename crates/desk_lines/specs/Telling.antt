@@ -1,5 +1,5 @@
 -- The answers to some lines, each a text without its line feed.
-use Rattle.std.specs.Prelude.{◌≡◌, ℕ, ◌+◌, ◌<◌, ◌⊎◌, List, [], ◌∷◌, ◌++◌, length, Bool, true, false, Option, None, Some}
+use Rattle.std.specs.Prelude.{◌≡◌, ℕ, ◌+◌, ◌<◌, ◌⊎◌, List, [], ◌∷◌, ◌++◌, length, take, Bool, true, false, Option, None, Some}
 use Rattle.std.specs.List.{flat_map, count_by, cons_option}
 use Rattle.desk_lines.specs.declared.report.DeskReport.{DeskReport}
 use Rattle.desk_lines.specs.declared.line_kind.LineKind.{LineKind}
@@ -41,6 +41,10 @@ has_answer Refused = true
 abbrev pub report_of : List LineKind → DeskReport
 report_of kinds = record { answered = count_by is_answered kinds; refused = count_by is_refused kinds }
 
+-- two reports together
+abbrev pub both_reports : DeskReport → DeskReport → DeskReport
+both_reports one other = record { answered = one.answered + other.answered; refused = one.refused + other.refused }
+
 -- the lines that a report counts
 abbrev pub count_of : DeskReport → ℕ
 count_of report = report.answered + report.refused
@@ -55,9 +59,9 @@ report_with report Refused = record { answered = report.answered; refused = repo
 abbrev pub answers_in : {A : Type 0} → Option A → List A
 answers_in answer = cons_option answer []
 
--- a line may have the answer of another one: where they are one line, or both are longer than any line with an answer of its own
+-- a line may have the answer of another one: where they are one line, or both are longer than any line with an answer of its own, and begin alike
 abbrev pub IsToldAs : ℕ → List ℕ → List ℕ → Type 0
-IsToldAs most line other = (line ≡ other) ⊎ ((most < length line) × (most < length other))
+IsToldAs most line other = (line ≡ other) ⊎ ((most < length line) × (most < length other) × (take most line ≡ take most other))
 
 -- The line of this number was answered so, and any that may have its answer: the answer was put behind the text that stood there.
 pub record AnswersLine {T A : Type 0} (written : A → List ℕ) (most : ℕ) (tells : T → T → List (List ℕ) → List A → DeskReport → Type 0) (old new : T) (number : ℕ) (line : List ℕ) (kind : LineKind) (before after : List ℕ) : Type 0 where

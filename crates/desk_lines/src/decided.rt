@@ -3,7 +3,7 @@ ghost use Rattle.std.proofs.Common.{rules};
 
 use crate::fault::DeskFault;
 use crate::filling::Filled;
-use crate::report::DeskReport;
+use crate::report::{DeskReport, Slip, TextReport};
 use riichi_tiles::Decided;
 
 impl Decided for DeskFault {
@@ -11,6 +11,14 @@ impl Decided for DeskFault {
 }
 
 impl Decided for DeskReport {
+    ghost decides = { λ a b. Prim.search rules };
+}
+
+impl Decided for Slip {
+    ghost decides = { λ a b. Prim.search rules };
+}
+
+impl Decided for TextReport {
     ghost decides = { λ a b. Prim.search rules };
 }
 

@@ -1,10 +1,12 @@
 //! Answers behind the numbers of their lines.
-ghost use Rattle.std.specs.Prelude.{◌≡◌, ◌++◌, ℕ, List, None};
+ghost use Rattle.std.specs.Prelude.{◌≡◌, ◌++◌, ℕ, List, None, unwrap_or};
 ghost use Rattle.desk_lines.specs.Outbox.{HasRoom, HasRoomForLine};
+ghost use Rattle.desk_lines.specs.Slips.{told_slip};
 
 use super::line_kind::LineKind;
 use super::outbox::Outbox;
 use super::records::Records;
+use super::report::{DeskReport, TextReport};
 use super::responder::Responder;
 use super::teller::Teller;
 use riichi_hand::Rules;
@@ -33,10 +35,20 @@ impl<A: Numbers> Numbered<A> {
     pub(crate) fn new(given: Rules) -> Numbered<A>
         ensures given { result.records.given ≡ given }
         ensures rules { result.records.rules ≡ None }
+        ensures slip { result.records.slip ≡ None }
     {
         Numbered {
             records: Records::new(given),
         }
+    }
+
+    /// The report on the lines, of which so many have answers.
+    pub(crate) fn report(&self, counts: DeskReport) -> TextReport
+        ensures counts { result.counts ≡ counts }
+        ensures slip { let records = self.now.records in
+            result.slip ≡ told_slip (unwrap_or records.rules records.given) records.slip }
+    {
+        self.records.report(counts)
     }
 }
 
@@ -62,7 +74,7 @@ impl<A: Numbers> Teller for Numbered<A> {
         outbox: &mut Outbox,
         source: &mut S,
     ) -> Result<LineKind, AllocError> {
-        let Some(rules) = self.records.next_rules(line) else {
+        let Some(rules) = self.records.next_rules(number, line) else {
             return Ok(LineKind::NoRecord);
         };
         let before = outbox.len();

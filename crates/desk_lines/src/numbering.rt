@@ -1,16 +1,16 @@
 //! A text over streams, with the numbers of the lines.
 ghost use Rattle.std.specs.Prelude.{◌≡◌, ◌++◌, ℕ, List, map, IfOk, IsErrOf};
-ghost use Rattle.desk_lines.specs.LineAnswers.{report_on};
 ghost use Rattle.desk_lines.specs.Lines.{ended_lines, lines};
 ghost use Rattle.desk_lines.specs.Numbered.{NumberRecords};
 ghost use Rattle.desk_lines.specs.Records.{AnswerRecords};
+ghost use Rattle.desk_lines.specs.Slips.{text_report};
 ghost use Rattle.desk_lines.specs.Streams.{Gives, GivesAll, WritesAll, StopsWriting, AreWhole, FailsOrGoesOn, IsReadWithin};
 ghost use Rattle.desk_lines.specs.Telling.{text_by};
 
 use super::answer_lines::answer_lines;
 use super::fault::DeskFault;
 use super::numbered::{Numbered, Numbers};
-use super::report::DeskReport;
+use super::report::TextReport;
 use desk_io::{Sink, Source};
 use riichi_hand::Rules;
 use riichi_shape::RowSource;
@@ -24,7 +24,7 @@ pub fn numbered_text_by<A: Numbers, S: RowSource, R: Source, W: Sink>(
     rules: Rules,
     reader: &mut R,
     writer: &mut W,
-) -> Result<DeskReport, DeskFault>
+) -> Result<TextReport, DeskFault>
     // The reader was read to its end, and the answers to what it gave were written with the numbers of their lines. Without
     // these they are the answers of that kind.
     ensures ok { IfOk result (λ report. (text : List ℕ) × (told : List (ℕ × List ℕ))
@@ -32,7 +32,7 @@ pub fn numbered_text_by<A: Numbers, S: RowSource, R: Source, W: Sink>(
         × NumberRecords A.may_tell rules (lines text) told
         × AnswerRecords A.may_tell rules (lines text) (map (λ told. told.1) told)
         × WritesAll ⟦<W as Sink>⟧ writer.old writer.new (text_by (λ told. A.front told.0 ++ told.1) told)
-        × (report ≡ report_on rules (lines text))) }
+        × (report ≡ text_report rules (lines text))) }
 
     // A read failed, or there were too many: the answers to the lines that had ended were written.
     ensures read_failed { IsErrOf result DeskFault.Read
@@ -58,5 +58,8 @@ pub fn numbered_text_by<A: Numbers, S: RowSource, R: Source, W: Sink>(
     ensures reads { IsReadWithin ⟦<R as Source>⟧ reader.old reader.new }
 {
     let mut numbered: Numbered<A> = Numbered::new(rules);
-    answer_lines(&mut numbered, source, reader, writer)
+    match answer_lines(&mut numbered, source, reader, writer) {
+        Ok(counts) => Ok(numbered.report(counts)),
+        Err(fault) => Err(fault),
+    }
 }

@@ -1,7 +1,7 @@
 //! The rule profile that a stream's first line can set.
 ghost use Rattle.std.specs.Prelude.{◌≡◌, ◌<◌, [], Some, None, MatchOption};
 ghost use Rattle.desk_lines.specs.Lines.{ended_lines};
-ghost use Rattle.desk_lines.specs.Records.{next_profile, records_in};
+ghost use Rattle.desk_lines.specs.Records.{next_profile, records_in, sets_profile};
 ghost use Rattle.desk_lines.specs.Profile.{profile_numbered, profile_of, rules_by, record_rules};
 
 use super::first_line::first_line;
@@ -26,20 +26,48 @@ pub(crate) fn first_rules(given: Rules, stream: &mut Option<Rules>, line: &[u8])
     }
 }
 
-/// The profile of a stream that goes on with this text, and the text without a line that sets it: the first one of a stream,
-/// whose profile is none until then. None where that line has not ended.
-pub fn next_records(given: Rules, profile: Option<Rules>, text: &[u8]) -> Option<(Rules, &[u8])>
+/// What of a stream's next text can be records.
+#[derive(Clone, Copy)]
+pub struct NextRecords<'text> {
+    /// The profile of the stream.
+    pub rules: Rules,
+    /// Whether the first line of the text sets it, and is no record.
+    pub sets_profile: bool,
+    /// The text without that line.
+    pub text: &'text [u8],
+}
+
+/// The records of a text with which a stream goes on. The first line of all may set the profile, which is none until then. None
+/// where that line has not ended.
+pub fn next_records<'text>(
+    given: Rules,
+    profile: Option<Rules>,
+    text: &'text [u8],
+) -> Option<NextRecords<'text>>
     ensures { MatchOption result ((profile ≡ None) × (ended_lines text.now ≡ []))
-        (λ found. (next_profile given profile (ended_lines text.now) ≡ Some found.0)
-        × (ended_lines found.1.now ≡ records_in profile (ended_lines text.now))) }
+        (λ found. (next_profile given profile (ended_lines text.now) ≡ Some found.rules)
+        × (found.sets_profile ≡ sets_profile profile (ended_lines text.now))
+        × (ended_lines found.text.now ≡ records_in profile (ended_lines text.now))) }
 {
     if let Some(rules) = profile {
-        return Some((rules, text));
+        return Some(NextRecords {
+            rules,
+            sets_profile: false,
+            text,
+        });
     }
     let (line, after) = first_line(text)?;
     match profile_of(line) {
-        Some(rules) => Some((rules, after)),
-        None => Some((given, text)),
+        Some(rules) => Some(NextRecords {
+            rules,
+            sets_profile: true,
+            text: after,
+        }),
+        None => Some(NextRecords {
+            rules: given,
+            sets_profile: false,
+            text,
+        }),
     }
 }
 

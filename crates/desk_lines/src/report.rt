@@ -1,7 +1,9 @@
-//! How many answer lines were written.
+//! How many answer lines were written, and which line set no profile.
 ghost use Rattle.std.specs.Prelude.{◌≡◌, ◌+◌, ◌<◌, ◌⊎◌, IfOk, IfErr};
+ghost use Rattle.desk_lines.specs.Slips.{told_slip};
 
 use super::fault::DeskFault;
+use riichi_hand::Rules;
 
 /// How many answer lines were written.
 #[derive(Clone, Copy, Debug, PartialEq, Eq)]
@@ -10,6 +12,24 @@ pub struct DeskReport {
     pub answered: u64,
     /// Those that say why a line is refused.
     pub refused: u64,
+}
+
+/// The report on a text of record lines.
+#[derive(Clone, Copy, Debug, PartialEq, Eq)]
+pub struct TextReport {
+    /// How many answer lines were written.
+    pub counts: DeskReport,
+    /// The first line that looks like a profile line and sets no profile.
+    pub slip: Option<Slip>,
+}
+
+/// A line that looks like a profile line and sets no profile.
+#[derive(Clone, Copy, Debug, PartialEq, Eq)]
+pub struct Slip {
+    /// Its number, counted from 1; all lines count.
+    pub line: u64,
+    /// The rules under which the lines of its text are answered.
+    pub rules: Rules,
 }
 
 /// The most lines of a count.
@@ -31,5 +51,19 @@ impl DeskReport {
             (Some(answered), Some(refused)) => Ok(DeskReport { answered, refused }),
             _ => Err(DeskFault::Memory),
         }
+    }
+}
+
+impl TextReport {
+    /// The report on a text, of which the line of this number looks like a profile line and sets none.
+    pub fn new(counts: DeskReport, line: Option<u64>, rules: Rules) -> TextReport
+        ensures counts { result.counts ≡ counts }
+        ensures slip { result.slip ≡ told_slip rules line }
+    {
+        let slip = match line {
+            Some(line) => Some(Slip { line, rules }),
+            None => None,
+        };
+        TextReport { counts, slip }
     }
 }

@@ -3,6 +3,7 @@ ghost use Rattle.std.specs.Prelude.{◌≡◌, ◌++◌, ℕ, List, IfOk, IsErrO
 ghost use Rattle.desk_lines.specs.Lines.{ended_lines, lines};
 ghost use Rattle.desk_lines.specs.LineAnswers.{answers, answers_to, report_on};
 ghost use Rattle.desk_lines.specs.Records.{AnswerRecords};
+ghost use Rattle.desk_lines.specs.Slips.{text_report};
 ghost use Rattle.desk_lines.specs.Streams.{Gives, GivesAll, WritesAll, StopsWriting, AreWhole, FailsOrGoesOn, IsReadWithin};
 ghost use Rattle.desk_lines.specs.Telling.{text_of};
 
@@ -10,7 +11,7 @@ use super::answer_lines::answer_lines;
 use super::answering::Plain;
 use super::fault::DeskFault;
 use super::records::Records;
-use super::report::DeskReport;
+use super::report::{DeskReport, TextReport};
 use super::responder::Responder;
 use desk_io::{Sink, Source};
 use riichi_hand::Rules;
@@ -51,7 +52,11 @@ pub fn desk_text<R: Source, W: Sink>(
         → R.failures reader.new ≡ R.failures reader.old }
     ensures reads { IsReadWithin ⟦<R as Source>⟧ reader.old reader.new }
 {
-    desk_text_by::<Plain, SuitMemo, R, W>(&mut SuitMemo::in_value(), rules, reader, writer)
+    let mut rows = SuitMemo::in_value();
+    match desk_text_by::<Plain, SuitMemo, R, W>(&mut rows, rules, reader, writer) {
+        Ok(report) => Ok(report.counts),
+        Err(fault) => Err(fault),
+    }
 }
 
 /// The same by any kind of answer, where shapes are answered by the rows of a source: the answers are the same, whichever it is.
@@ -60,13 +65,13 @@ pub fn desk_text_by<A: Responder, S: RowSource, R: Source, W: Sink>(
     rules: Rules,
     reader: &mut R,
     writer: &mut W,
-) -> Result<DeskReport, DeskFault>
+) -> Result<TextReport, DeskFault>
     // The reader was read to its end, and the answers to what it gave were written.
     ensures ok { IfOk result (λ report. (text : List ℕ) × (told : List (List ℕ))
         × GivesAll ⟦<R as Source>⟧ reader.old reader.new text
         × AnswerRecords A.may_tell rules (lines text) told
         × WritesAll ⟦<W as Sink>⟧ writer.old writer.new (text_of told)
-        × (report ≡ report_on rules (lines text))) }
+        × (report ≡ text_report rules (lines text))) }
 
     // A read failed, or there were too many: the answers to the lines that had ended were written.
     ensures read_failed { IsErrOf result DeskFault.Read
@@ -92,5 +97,8 @@ pub fn desk_text_by<A: Responder, S: RowSource, R: Source, W: Sink>(
     ensures reads { IsReadWithin ⟦<R as Source>⟧ reader.old reader.new }
 {
     let mut records: Records<A> = Records::new(rules);
-    answer_lines(&mut records, source, reader, writer)
+    match answer_lines(&mut records, source, reader, writer) {
+        Ok(counts) => Ok(records.report(counts)),
+        Err(fault) => Err(fault),
+    }
 }

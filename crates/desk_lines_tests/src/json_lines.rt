@@ -26,7 +26,7 @@ const OBJECTS: &[u8] =
 fn answered<const ROOM: usize>(
     reader: &mut BytesIn<'_>,
     writer: &mut BytesOut<ROOM>,
-) -> Result<DeskReport, DeskFault> {
+) -> Result<TextReport, DeskFault> {
     let rows = &mut SuitMemo::in_value();
     desk_text_by::<Objects, SuitMemo, BytesIn, BytesOut<ROOM>>(rows, Rules::One, reader, writer)
 }
@@ -39,9 +39,12 @@ fn an_object_for_each_record(rt: HostRuntime) {
         let mut writer: BytesOut<1024> = BytesOut::new(most, None);
         let report = answered(&mut reader, &mut writer);
         same_in(&rt, &most, writer.bytes(), OBJECTS);
-        let counted = DeskReport {
-            answered: 3,
-            refused: 2,
+        let counted = TextReport {
+            counts: DeskReport {
+                answered: 3,
+                refused: 2,
+            },
+            slip: None,
         };
         holds_in(&rt, &most, report == Ok(counted));
     }

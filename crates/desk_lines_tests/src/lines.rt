@@ -429,11 +429,50 @@ shanten 0 accepts 2p:4 5p:4 live 8
     holds(
         &rt,
         report
-            == Ok(DeskReport {
-                answered: 3,
-                refused: 1,
+            == Ok(TextReport {
+                counts: DeskReport {
+                    answered: 3,
+                    refused: 1,
+                },
+                slip: None,
             }),
     );
+}
+
+/// The first line that looks like a profile line and sets none, with the rules of the others.
+#[test]
+fn the_line_that_sets_no_profile(rt: HostRuntime) {
+    for (text, slip) in [
+        (b"".as_slice(), None),
+        (b"rules 1\nwaits 8z", None),
+        (b" rules  2 \r\n# rules 1\nwaits 8z", None),
+        (b"rules", Some((1, Rules::One))),
+        (b"\xEF\xBB\xBFrules 2\n", Some((1, Rules::One))),
+        (
+            b"rules 2\nwaits 8z\n\n\t\x0C RULEs 3\r\nrules 1\n",
+            Some((4, Rules::Two)),
+        ),
+        (b"rules 2 # of the club\n", Some((1, Rules::One))),
+        (b"                            rule 2", Some((1, Rules::One))),
+        (b"                             rule 2", None),
+    ] {
+        let mut reader = BytesIn::new(text, 7, None);
+        let mut writer: BytesOut<256> = BytesOut::new(1000, None);
+        let report = desk_text_by::<Plain, SuitMemo, BytesIn, BytesOut<256>>(
+            &mut SuitMemo::in_value(),
+            Rules::One,
+            &mut reader,
+            &mut writer,
+        );
+        let told = match slip {
+            Some((line, rules)) => Some(Slip { line, rules }),
+            None => None,
+        };
+        holds_in(&rt, &text, report.is_ok());
+        if let Ok(report) = report {
+            holds_in(&rt, &text, report.slip == told);
+        }
+    }
 }
 
 #[test]

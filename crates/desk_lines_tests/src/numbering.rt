@@ -22,9 +22,12 @@ const OBJECTS: &[u8] =
 {\"line\":6,\"answer\":\"waits\",\"kinds\":[\"2p\",\"5p\"]}
 ";
 
-const COUNTED: DeskReport = DeskReport {
-    answered: 2,
-    refused: 1,
+const COUNTED: TextReport = TextReport {
+    counts: DeskReport {
+        answered: 2,
+        refused: 1,
+    },
+    slip: None,
 };
 
 #[test]

@@ -97,11 +97,12 @@ fn named_tables(rt: HostRuntime) -> Result<(), Fail> {
         let readers = two_readers(alloc, FIRST, second)?;
         let mut writer: BytesOut<2048> = BytesOut::new(1000, None);
         let told = score_text_with(&rt, alloc, Rules::One, Some(names), readers, 2, &mut writer);
-        let report = DeskReport {
-            answered: 1,
-            refused: 2,
-        };
-        holds(&rt, told == Ok(report));
+        holds(&rt, told.is_ok());
+        if let Ok(report) = told {
+            same(&rt, report.counts.answered, 1);
+            same(&rt, report.counts.refused, 2);
+            same(&rt, report.slips.len(), 2);
+        }
         same(&rt, writer.bytes(), answers);
     }
     Ok(())

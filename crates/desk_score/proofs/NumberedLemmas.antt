@@ -2,8 +2,8 @@
 use Rattle.std.proofs.Common.{◌≡◌, ℕ, suc, List, [], ◌∷◌, ◌++◌, true, Option, ◌∙◌, ap}
 use Rattle.riichi_hand.specs.Rules.{Rules}
 use Rattle.desk_lines.specs.LineAnswer.{IsBy, answer_of}
-use Rattle.desk_lines.specs.Numbered.{AreNumbered, NumberRecords, first_number, with_number, words_front}
-use Rattle.desk_lines.specs.Profile.{rules_of, record_lines}
+use Rattle.desk_lines.specs.Numbered.{AreNumbered, NumberRecords, with_number, words_front}
+use Rattle.desk_lines.specs.Profile.{first_number, rules_of, record_lines}
 use Rattle.desk_lines.specs.Telling.{text_by, answers_in}
 use Rattle.desk_score.specs.Shown.{numbered_from, answers_shown}
 

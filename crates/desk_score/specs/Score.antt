@@ -5,8 +5,10 @@ use Rattle.desk_io.specs.declared.source.Source.{Ghosts as OfSource}
 use Rattle.riichi_hand.specs.Rules.{Rules}
 use Rattle.desk_core.specs.declared.lane.TheConstants.{LIMIT}
 use Rattle.desk_lines.specs.declared.report.DeskReport.{DeskReport}
+use Rattle.desk_lines.specs.declared.report.Slip.{Slip}
 use Rattle.desk_lines.specs.Lines.{lines}
 use Rattle.desk_lines.specs.LineAnswers.{answers, report_on}
+use Rattle.desk_lines.specs.Slips.{text_report}
 use Rattle.desk_lines.specs.Streams.{GivesAll, FailsOrGoesOn, IsReadWithin}
 use Rattle.desk_score.specs.Heads.{head_line, tables_from, tables_text}
 use Rattle.desk_score.specs.Shown.{answers_shown}
@@ -33,6 +35,10 @@ score_report given texts = record {
   answered = sum_by (λ text. (report_on given (lines text)).answered) texts;
   refused = sum_by (λ text. (report_on given (lines text)).refused) texts;
 }
+
+-- of each text the first line that looks like a profile line and sets none
+abbrev pub score_slips : Rules → List (List ℕ) → List (Option Slip)
+score_slips given texts = map (λ text. (text_report given (lines text)).slip) texts
 
 -- there are 1 to 64 readers, and 1 to 16 workers
 abbrev pub AreAllowed : ℕ → ℕ → Type 0

@@ -3,8 +3,8 @@ use Rattle.std.specs.Prelude.{ℕ, suc, List, [], ◌∷◌, ◌++◌, Bool, if�
 use Rattle.riichi_hand.specs.Rules.{Rules}
 use Rattle.desk_lines.specs.LineAnswer.{answer_of}
 use Rattle.desk_lines.specs.LineAnswers.{answers_to}
-use Rattle.desk_lines.specs.Numbered.{first_number, with_number, words_front}
-use Rattle.desk_lines.specs.Profile.{rules_of, record_lines}
+use Rattle.desk_lines.specs.Numbered.{with_number, words_front}
+use Rattle.desk_lines.specs.Profile.{first_number, rules_of, record_lines}
 use Rattle.desk_lines.specs.Telling.{answers_in, text_by}
 
 -- the answers to lines, each with the number of its line; the first line has this one

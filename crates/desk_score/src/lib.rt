@@ -19,5 +19,5 @@ mod score;
 mod score_fault;
 mod tables;
 
-pub use score::{score_text, score_text_with};
+pub use score::{ScoreReport, score_text, score_text_with};
 pub use score_fault::ScoreFault;

@@ -2,7 +2,7 @@
 ghost use Rattle.std.specs.Prelude.{◌≡◌, ◌↔◌, ◌≤◌, ◌<◌, ℕ, List, [], ◌∷◌, ◌++◌, ◌+◌, length, IsTrue, OnOk, IfOk, IfErr, IsErrOf, Option, map, option_map};
 ghost use Rattle.riichi_hand.specs.Rules.{Rules};
 ghost use Rattle.desk_lines.specs.Lines.{lines};
-ghost use Rattle.desk_lines.specs.LineAnswers.{report_on};
+ghost use Rattle.desk_lines.specs.Slips.{text_report};
 ghost use Rattle.desk_lines.specs.Streams.{FailsOrGoesOn, GivesAll, IsReadWithin};
 ghost use Rattle.desk_score.specs.Faults.{fault_in_memory};
 ghost use Rattle.desk_score.specs.Score.{AllGive, StopsReading, table_name};
@@ -14,7 +14,7 @@ use crate::score_fault::ScoreFault;
 use desk_core::LIMIT;
 use desk_crew::Crew;
 use desk_io::Source;
-use desk_lines::{DeskFault, DeskReport, Plain, SuitMemo, numbered_text_by};
+use desk_lines::{DeskFault, DeskReport, Plain, Slip, SuitMemo, TextReport, numbered_text_by};
 use riichi_hand::Rules;
 use std::alloc::{AllocError, Global};
 use std::thread::Threads;
@@ -32,6 +32,8 @@ pub(crate) struct Tables {
     pub(crate) within_limit: bool,
     /// How many lines are answered, and how many refused.
     pub(crate) report: DeskReport,
+    /// Of each table the first line that looks like a profile line and sets none.
+    pub(crate) slips: Vec<Option<Slip>>,
 }
 
 impl Tables {
@@ -48,6 +50,7 @@ impl Tables {
                 answered: 0,
                 refused: 0,
             },
+            slips: Vec::new(alloc),
         })
     }
 
@@ -108,18 +111,19 @@ impl Tables {
         }
     }
 
-    /// Counts the answers of the next table. A count that its type doesn't hold finds no memory.
-    fn count_table(&mut self, report: DeskReport) -> Result<(), ScoreFault>
+    /// Counts the answers of the next table, and notes its slip. A count that its type doesn't hold finds no memory.
+    fn count_table(&mut self, report: TextReport) -> Result<(), ScoreFault>
         ensures ok { OnOk result ((given : Rules) (texts : List (List ℕ)) (text : List ℕ)
             → AreCounted given texts self.old
-            → report ≡ report_on given (lines text)
+            → report ≡ text_report given (lines text)
             → AreCounted given (texts ++ text ∷ []) self.new) }
         ensures err { IfErr result (λ fault. fault ≡ ScoreFault.Memory) }
         ensures same { self.new.answers ≡ self.old.answers }
     {
-        self.report = self.report.plus(report)?;
+        self.report = self.report.plus(report.counts)?;
         self.count = one_more_table(self.count)?;
-        self.within_limit = are_within_limit(self.within_limit, report.answered);
+        push_slip(&mut self.slips, report.slip)?;
+        self.within_limit = are_within_limit(self.within_limit, report.counts.answered);
         Ok(())
     }
 }
@@ -134,12 +138,12 @@ fn answer_table<H: Threads + Sync, R: Source>(
     is_numbered: bool,
     reader: &mut R,
     answers: &mut Paper,
-) -> Result<DeskReport, DeskFault>
+) -> Result<TextReport, DeskFault>
     ensures ok { IfOk result (λ report. (text : List ℕ)
         × GivesAll ⟦<R as Source>⟧ reader.old reader.new text
         × (answers.new.text.items
         ≡ answers.old.text.items ++ answers_shown is_numbered rules (lines text))
-        × (report ≡ report_on rules (lines text))) }
+        × (report ≡ text_report rules (lines text))) }
     ensures read_failed { IsErrOf result DeskFault.Read
         → FailsOrGoesOn ⟦<R as Source>⟧ reader.old reader.new }
     ensures reads { IsReadWithin ⟦<R as Source>⟧ reader.old reader.new }
@@ -190,5 +194,16 @@ fn one_more_table(tables: usize) -> Result<usize, ScoreFault>
     match tables.checked_add(1) {
         Some(more) => Ok(more),
         None => Err(ScoreFault::Memory),
+    }
+}
+
+/// Notes the slip of one more table.
+fn push_slip(slips: &mut Vec<Option<Slip>>, slip: Option<Slip>) -> Result<(), ScoreFault>
+    ensures ok { OnOk result (slips.new.items ≡ slips.old.items ++ slip ∷ []) }
+    ensures err { IfErr result (λ fault. fault ≡ ScoreFault.Memory) }
+{
+    match slips.push(slip) {
+        Ok(()) => Ok(()),
+        Err(_) => Err(ScoreFault::Memory),
     }
 }

@@ -2,4 +2,3 @@ pub mod Answering
 pub mod Told
 pub mod Failures
 pub mod Outcomes
-pub mod Counts

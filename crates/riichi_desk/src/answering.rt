@@ -1,8 +1,8 @@
 //! The proved core of the commands: a text of record lines is answered in the form that was asked for.
-ghost use Rattle.std.specs.Prelude.{◌≡◌, ℕ, List, true, false, IfOk, IfErr, OnOk, string_bytes};
+ghost use Rattle.std.specs.Prelude.{◌≡◌, ℕ, List, true, false, nat_lt, IfOk, IfErr, OnOk, string_bytes};
 ghost use Rattle.desk_lines.specs.declared.fault.DeskFault.{DeskFault};
-ghost use Rattle.desk_lines.specs.LineAnswers.{report_on};
 ghost use Rattle.desk_lines.specs.Lines.{lines};
+ghost use Rattle.desk_lines.specs.Slips.{text_report};
 ghost use Rattle.desk_lines.specs.Streams.{GivesAll};
 ghost use Rattle.riichi_desk.specs.Answering as spec;
 ghost use Rattle.riichi_desk.specs.Failures.{failure_in};
@@ -12,8 +12,8 @@ use desk_cli::{Form, Manner};
 use desk_crew::Crew;
 use desk_io::{BytesIn, Sink, Source};
 use desk_lines::{
-    DeskFault, DeskReport, EveryReading, Explained, Members, Numbers, Objects, Plain, Reasoned,
-    ReasonedMembers, Responder, SuitMemo, desk_text_by, numbered_text_by,
+    DeskFault, EveryReading, Explained, Members, Numbers, Objects, Plain, Reasoned,
+    ReasonedMembers, Responder, SuitMemo, TextReport, desk_text_by, numbered_text_by,
 };
 use std::alloc::Global;
 use std::thread::Threads;
@@ -50,20 +50,21 @@ impl<W: Sink> Answering<W> {
         ensures refused { IfOk result (λ is_refused. is_refused
             ≡ spec.has_refusal self.old.manner.rules (string_bytes text.now)) }
     {
-        self.source(rt, &mut BytesIn::new(text.as_bytes(), text.len() + 1, None))
+        let report = self.source(rt, &mut BytesIn::new(text.as_bytes(), text.len() + 1, None))?;
+        Ok(has_refusal(&report))
     }
 
-    /// Answers the lines of a source: whether one is refused.
+    /// Answers the lines of a source.
     pub(crate) fn source<'a, S: Source, R: Threads + Sync + AllocGlobal>(
         &mut self,
         rt: &R,
         reader: &mut S,
-    ) -> Result<bool, Failure<'a>>
-        ensures answered { IfOk result (λ is_refused. (text : List ℕ)
+    ) -> Result<TextReport, Failure<'a>>
+        ensures answered { IfOk result (λ report. (text : List ℕ)
             × GivesAll ⟦<S as Source>⟧ reader.old reader.new text
             × spec.IsAnswered ⟦<W as Sink>⟧ self.old.writer self.new.writer
             self.old.manner (lines text)
-            × (is_refused ≡ spec.has_refusal self.old.manner.rules text)) }
+            × (report ≡ text_report self.old.manner.rules (lines text))) }
         ensures failed { IfErr result (λ failure. (fault : DeskFault)
             × (failure ≡ failure_in self.old.manner.form fault)) }
         ensures kept { self.new.manner ≡ self.old.manner }
@@ -76,14 +77,14 @@ impl<W: Sink> Answering<W> {
             Form::JsonReasons => self.by_kind::<Reasoned, ReasonedMembers, S, R>(rt, reader),
         };
         match report {
-            Ok(report) => Ok(report.refused > 0),
+            Ok(report) => Ok(report),
             Err(fault) => Err(failure_in(self.manner.form, fault)),
         }
     }
 
     /// Answers by a kind of answer, or by another one where it stands behind the number of its line; by threads where they are
     /// wanted.
-    fn by_kind<A, N, S, R>(&mut self, rt: &R, reader: &mut S) -> Result<DeskReport, DeskFault>
+    fn by_kind<A, N, S, R>(&mut self, rt: &R, reader: &mut S) -> Result<TextReport, DeskFault>
     where
         A: Responder + Send + Sync,
         N: Numbers,
@@ -94,13 +95,13 @@ impl<W: Sink> Answering<W> {
             × GivesAll ⟦<S as Source>⟧ reader.old reader.new text
             × spec.WritesAnswers A.may_tell ⟦<W as Sink>⟧ self.old.writer self.new.writer
             self.old.manner.rules (lines text)
-            × (report ≡ report_on self.old.manner.rules (lines text))) }
+            × (report ≡ text_report self.old.manner.rules (lines text))) }
         ensures numbered { self.old.manner.is_numbered ≡ true
             → IfOk result (λ report. (text : List ℕ)
             × GivesAll ⟦<S as Source>⟧ reader.old reader.new text
             × spec.WritesNumbered N.may_tell N.front ⟦<W as Sink>⟧ self.old.writer
             self.new.writer self.old.manner.rules (lines text)
-            × (report ≡ report_on self.old.manner.rules (lines text))) }
+            × (report ≡ text_report self.old.manner.rules (lines text))) }
         ensures kept { self.new.manner ≡ self.old.manner }
     {
         let (rows, rules, writer) = (&mut self.rows, self.manner.rules, &mut self.writer);
@@ -118,6 +119,13 @@ impl<W: Sink> Answering<W> {
             }
         }
     }
+}
+
+/// Whether a line of a text is refused.
+pub(crate) fn has_refusal(report: &TextReport) -> bool
+    ensures { result ≡ nat_lt 0 report.now.counts.refused }
+{
+    report.counts.refused > 0
 }
 
 /// How a fault is reported: of a form with reasons in words.

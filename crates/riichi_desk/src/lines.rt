@@ -6,15 +6,15 @@ ghost use Rattle.riichi_desk.specs.Answering as spec;
 ghost use Rattle.desk_lines.specs.Lines.{lines};
 ghost use Rattle.riichi_desk.specs.Told as told;
 
-use crate::answering::Answering;
+use crate::answering::{Answering, has_refusal};
 use crate::failure::Failure;
 use crate::files::{INPUT, open_file};
-use crate::noted::Notes;
+use crate::noted::{Notes, tell_slip};
 use crate::progress::Progress;
 use desk_cli::{CommandName, Lines, Manner};
 use desk_io::{FromReader, Sink, ToWriter};
 use std::alloc::{AllocError, Global};
-use std::io::{Eprint, Input, Print};
+use std::io::{Eprint, Input, Print, Read};
 use std::rt::Files;
 use std::thread::Threads;
 use std::time::Clock;
@@ -58,8 +58,29 @@ impl<W: Sink> Answering<W> {
             × (is_refused ≡ spec.has_refusal self.old.manner.rules text)) }
         ensures kept { self.new.manner ≡ self.old.manner }
     {
-        let lines = notes.lines(progress, "standard input", self.manner.rules, rt.reader());
-        self.source(rt, &mut FromReader::new(lines))
+        self.stream(rt, notes, progress, "standard input", rt.reader())
+    }
+
+    /// Answers the lines of a stream: whether one is refused. The first line that looks like a profile line and sets none is told
+    /// under the name of the stream.
+    fn stream<'a, R: Eprint + Clock + Threads + Sync + AllocGlobal, T: Read + Drop>(
+        &mut self,
+        rt: &R,
+        notes: &Notes<'a>,
+        progress: &Progress<'_, R>,
+        name: &'a str,
+        stream: T,
+    ) -> Result<bool, Failure<'a>>
+        ensures answered { IfOk result (λ is_refused. (text : List ℕ)
+            × spec.IsAnswered ⟦<W as Sink>⟧ self.old.writer self.new.writer
+            self.old.manner (lines text)
+            × (is_refused ≡ spec.has_refusal self.old.manner.rules text)) }
+        ensures kept { self.new.manner ≡ self.old.manner }
+    {
+        let mut reader = FromReader::new(notes.lines(progress, name, stream));
+        let report = self.source(rt, &mut reader)?;
+        tell_slip(progress, name, &report.slip);
+        Ok(has_refusal(&report))
     }
 
     /// Answers the lines of files, each of which may set its own profile. The first that can't be opened or read ends it.
@@ -81,13 +102,8 @@ impl<W: Sink> Answering<W> {
             if file == INPUT {
                 is_refused |= self.input(rt, notes, progress)?;
             } else {
-                let mut reader = FromReader::new(notes.lines(
-                    progress,
-                    file,
-                    self.manner.rules,
-                    open_file(rt, file)?,
-                ));
-                is_refused |= self.source(rt, &mut reader)?;
+                let stream = open_file(rt, file)?;
+                is_refused |= self.stream(rt, notes, progress, file, stream)?;
             }
         }
         Ok(is_refused)

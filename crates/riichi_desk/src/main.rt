@@ -2,8 +2,8 @@
 //!
 //! `desk_cli` reads the command line into a `Request`, `answers` carries it out, `lines` over record lines, which `answering`
 //! answers in their form, and `scoring` over the files of tables, `codes`, `yaku`, `rules` and `version` print what they are named for. `failure` says what is written on standard
-//! error and with which exit status the program ends; `noted` keeps what the system said of a stream that failed,
-//! `profile` finds lines that look like a profile line and are none, and `progress` shows on a terminal how far the answers are.
+//! error and with which exit status the program ends; `noted` keeps what the system said of a stream that failed, and says which
+//! line of a text set no profile, and `progress` shows on a terminal how far the answers are.
 #![tactic(auto)]
 
 mod answering;
@@ -13,7 +13,6 @@ mod failure;
 mod files;
 mod lines;
 mod noted;
-mod profile;
 mod progress;
 mod rules;
 mod scoring;

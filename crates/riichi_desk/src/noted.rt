@@ -1,7 +1,7 @@
-//! What the system said of the stream that failed last.
-use crate::profile::{ProfileWatch, Slip};
+//! What the system said of the stream that failed last, and which line of a text set no profile.
 use crate::progress::Progress;
-use riichi_hand::{Rules, rules_words};
+use desk_lines::Slip;
+use riichi_hand::rules_words;
 use std::cell::Cell;
 use std::io::{self, Eprint, ErrorKind, Print, Printer, Read, Write};
 use std::time::Clock;
@@ -109,28 +109,24 @@ impl<R: Read> Read for Noted<'_, '_, R> {
     }
 }
 
-/// A reader of record lines: its failures are noted, a line that looks like a profile line and is none is told on standard
-/// error, and how far it is read is shown there, up to its end.
+/// A reader of record lines: its failures are noted, and how far it is read is shown on standard error, up to its end.
 #[derive(Drop)]
 pub struct Watched<'n, 'a, R, T> {
     reader: Noted<'n, 'a, T>,
     progress: &'n Progress<'n, R>,
-    watch: ProfileWatch,
 }
 
 impl<'a> Notes<'a> {
-    /// A reader of record lines under this name; these are the rules where the first line sets none.
+    /// A reader of record lines under this name.
     pub fn lines<'n, R: Eprint + Clock, T: Read>(
         &'n self,
         progress: &'n Progress<'n, R>,
         name: &'a str,
-        rules: Rules,
         stream: T,
     ) -> Watched<'n, 'a, R, T> {
         Watched {
             reader: self.reader(name, stream),
             progress,
-            watch: ProfileWatch::new(rules),
         }
     }
 }
@@ -140,24 +136,20 @@ impl<R: Eprint + Clock, T: Read> Read for Watched<'_, '_, R, T> {
 
     fn read(&mut self, buffer: &mut [u8]) -> io::Result<usize> {
         let count = self.reader.read(buffer)?;
-        let ended = self.watch.ended();
-        if let Some(bytes) = buffer.get(..count) {
-            if let Some(slip) = self.watch.look(bytes) {
-                tell_slip(self.progress.wiped(), self.reader.name, slip);
-            }
-        }
-        if count > 0 {
-            let lines = self.watch.ended().saturating_sub(ended);
-            self.progress.read(count, lines);
-        } else {
-            self.progress.wipe();
+        match buffer.get(..count) {
+            None | Some([]) => self.progress.wipe(),
+            Some(bytes) => self.progress.read(bytes),
         }
         Ok(count)
     }
 }
 
-/// Says that a line set no profile, and which rules the others have.
-fn tell_slip<R: Eprint>(rt: &R, name: &str, slip: Slip) {
+/// Says that a line of a text set no profile, where one looks as if it should, and which rules the others have.
+pub fn tell_slip<R: Eprint + Clock>(progress: &Progress<'_, R>, name: &str, slip: &Option<Slip>) {
+    let Some(slip) = slip else {
+        return;
+    };
+    let rt = progress.wiped();
     let line = slip.line;
     let rules = rules_words(slip.rules);
     let what = if slip.rules.is_house() {

@@ -1,5 +1,6 @@
 //! How far the program is, shown on a terminal.
 use desk_io::Reached;
+use memchr::memchr_iter;
 use std::cell::Cell;
 use std::io::Eprint;
 use std::time::{Clock, Instant};
@@ -67,11 +68,12 @@ impl<'r, R: Eprint + Clock> Progress<'r, R> {
         }
     }
 
-    /// So many bytes more were read, in which so many lines end.
-    pub fn read(&self, bytes: usize, lines: u64) {
+    /// These bytes were read.
+    pub fn read(&self, bytes: &[u8]) {
         if let Some(mut course) = self.course.get() {
-            course.bytes = course.bytes.saturating_add(bytes as u64);
-            course.lines = course.lines.saturating_add(lines);
+            let lines = memchr_iter(b'\n', bytes).count();
+            course.bytes = course.bytes.saturating_add(bytes.len() as u64);
+            course.lines = course.lines.saturating_add(lines as u64);
             let millis = course.millis(self.rt);
             self.show(course, millis, course.read_in(millis));
         }

@@ -2,16 +2,16 @@
 ghost use Rattle.std.specs.Prelude.{◌≡◌, ◌<◌, ℕ, List, None, Some, Err, IfOk, IfErr, length, nat_lt, if◌then◌else◌};
 ghost use Rattle.desk_cli.specs.Requests.{texts};
 ghost use Rattle.desk_lines.specs.Streams.{WritesAll};
-ghost use Rattle.desk_score.specs.Score.{AllGive, score_by, score_report};
+ghost use Rattle.desk_score.specs.Score.{AllGive, score_by, score_report, score_slips};
 ghost use Rattle.desk_score.specs.declared.score_fault.ScoreFault.{ScoreFault};
 
 use crate::failure::Failure;
 use crate::files::open_file;
-use crate::noted::{Notes, Watched};
+use crate::noted::{Notes, Watched, tell_slip};
 use crate::progress::Progress;
 use desk_io::{FromReader, Sink, Source, ToWriter};
 use desk_lines::Rules;
-use desk_score::{ScoreFault, score_text_with};
+use desk_score::{ScoreFault, ScoreReport, score_text_with};
 use std::io::{Eprint, Print};
 use std::rt::Files;
 use std::thread::Threads;
@@ -36,9 +36,13 @@ pub fn score_files<'a, R: Files + Print + Eprint + Clock + Threads + Sync + Allo
     if are_too_many(files) {
         return Err(Failure::Fault(ScoreFault::Range));
     }
-    let readers = open_files(rt, notes, progress, rules, files)?;
+    let readers = open_files(rt, notes, progress, files)?;
     let mut writer = ToWriter::new(notes.output(rt));
-    score_readers(rt, rules, files, is_numbered, readers, workers, &mut writer)
+    let report = score_readers(rt, rules, files, is_numbered, readers, workers, &mut writer)?;
+    for (name, slip) in files.iter().zip(report.slips.as_slice()) {
+        tell_slip(progress, *name, slip);
+    }
+    Ok(is_refused(&report))
 }
 
 /// Whether there are more files than tables may be.
@@ -48,8 +52,15 @@ fn are_too_many(files: &[&str]) -> bool
     files.len() > MOST_FILES
 }
 
+/// Whether a line of any table is refused.
+fn is_refused(report: &ScoreReport) -> bool
+    ensures { result ≡ nat_lt 0 report.now.counts.refused }
+{
+    report.counts.refused > 0
+}
+
 /// Answers the texts that readers give, each a table, where it is wanted with the names of the files and the numbers of their
-/// lines: whether a line is refused.
+/// lines.
 fn score_readers<'a, S: Source + Drop, W: Sink, R: Threads + Sync + AllocGlobal>(
     rt: &R,
     rules: Rules,
@@ -58,18 +69,18 @@ fn score_readers<'a, S: Source + Drop, W: Sink, R: Threads + Sync + AllocGlobal>
     readers: Vec<S>,
     workers: u32,
     writer: &mut W,
-) -> Result<bool, Failure<'a>>
+) -> Result<ScoreReport, Failure<'a>>
     ensures ok { let names = if is_numbered then Some (texts files.now) else None in
-        IfOk result (λ is_refused. (texts : List (List ℕ))
+        IfOk result (λ report. (texts : List (List ℕ))
         × AllGive ⟦<S as Source>⟧ readers.items texts
         × WritesAll ⟦<W as Sink>⟧ writer.old writer.new (score_by names rules texts)
-        × (is_refused ≡ nat_lt 0 (score_report rules texts).refused)) }
+        × (report.counts ≡ score_report rules texts)
+        × (report.slips.items ≡ score_slips rules texts)) }
     ensures failed { IfErr result
         (λ failure. (fault : ScoreFault) × (failure ≡ Failure.Fault fault)) }
 {
     let names = if is_numbered { Some(files) } else { None };
-    let report = score_text_with(rt, rt.alloc(), rules, names, readers, workers, writer)?;
-    Ok(report.refused > 0)
+    Ok(score_text_with(rt, rt.alloc(), rules, names, readers, workers, writer)?)
 }
 
 /// Opens the files in the order given. The first that can't be opened ends it.
@@ -77,12 +88,11 @@ fn open_files<'n, 'a, R: Files + Eprint + Clock + AllocGlobal>(
     rt: &R,
     notes: &'n Notes<'a>,
     progress: &'n Progress<'n, R>,
-    rules: Rules,
     files: &[&'a str],
 ) -> Result<Vec<FromReader<Watched<'n, 'a, R, R::File>>>, Failure<'a>> {
     let mut readers = Vec::new(rt.alloc());
     for file in files {
-        let reader = notes.lines(progress, *file, rules, open_file(rt, *file)?);
+        let reader = notes.lines(progress, *file, open_file(rt, *file)?);
         if readers.push(FromReader::new(reader)).is_err() {
             return Err(Failure::Fault(ScoreFault::Memory));
         }

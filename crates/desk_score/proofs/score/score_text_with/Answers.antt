@@ -1,4 +1,4 @@
-use Rattle.std.proofs.Common.{◌∙◌, ℕ, List, inr, subst, sym}
+use Rattle.std.proofs.Common.{◌∙◌, ℕ, List, inr, ap, subst, sym}
 use Rattle.std.proofs.lemmas.Bool.{false≢true}
 use Rattle.std.proofs.lemmas.Result.{IfOk-weaker}
 use Rattle.desk_lines.specs.Streams.{WritesAll}
@@ -9,7 +9,7 @@ returns-clause-ok g c =
     let all = c.in_ok-tables.ensures.ok in
     let counted = all.2.counted in
     IfOk-weaker c.write_tables.result _ _
-    (λ report said. (all.0, all.1, counted.limit.0 said.0, subst (λ (told : List ℕ). WritesAll g.W.Sink c.args.writer.now c.write_tables.new.writer told) all.2.told said.1, said.2 ∙ counted.report))
+    (λ report said. (all.0, all.1, counted.limit.0 said.0, subst (λ (told : List ℕ). WritesAll g.W.Sink c.args.writer.now c.write_tables.new.writer told) all.2.told said.1, said.2 ∙ counted.report, ap (λ s. s.items) said.3 ∙ counted.slips))
     c.write_tables.ensures.ok
 
 pub returns-clause-range : goal.returns-clause-range

@@ -59,12 +59,12 @@ returns-in_err-gather-clause-err g c =
 pub returns-clause-ok : goal.returns-clause-ok
 returns-clause-ok g c start lines next as_these waits =
     let begun = c.begin-rules in
-    let new : Standing = record { profile = begun.new.self.profile; report = c.gather.new.report } in
+    let new : Standing = record { profile = begun.new.self.profile; tally = c.gather.new.tally } in
     let told = stands g (goal.at.returns-clause-ok g c).In_ok-answer_beside start lines waits in
     let more = Waits-more g.A.Responder.may_tell g.W.Sink start c.args.given (alike g) begun.result.0 lines (ended_lines c.as_slice-text.result.now) next (ended_lines begun.result.1.now)
     c.args.self.now.standing begun.new.self new c.answer_beside.new.other.1.now (answers_in_rooms c.gather.new.self)
     (subst (λ (text : List ℕ). AreToldAs 4096 (ended_lines text) next) (sym c.as_slice-text.ensures.value) as_these) told
-    begun.ensures.profile begun.ensures.rules begun.ensures.records begun.ensures.same c.in_ok-gather.ensures.ok refl in
+    begun.ensures.profile begun.ensures.rules begun.ensures.records begun.ensures.tally c.in_ok-gather.ensures.ok refl in
     search (rules, more)
 
 pub invariant_of-self : goal.invariant_of-self

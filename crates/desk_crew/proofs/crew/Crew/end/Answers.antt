@@ -2,7 +2,7 @@ use Rattle.std.proofs.Common.{◌∙◌, ap}
 use Rattle.std.proofs.lemmas.Result.{err_from_is_err_and}
 use Rattle.desk_lines.specs.Lines.{cut_of, ended_lines, last_line}
 use Rattle.desk_crew.specs.Pieces.{answers_in_rooms}
-use Rattle.desk_crew.proofs.CrewLemmas.{Waits-nothing, Stopped-memory}
+use Rattle.desk_crew.proofs.CrewLemmas.{Answered-now, Waits-nothing, Stopped-memory}
 use Rattle.desk_crew.proofs.RoundLemmas.{last_so}
 use Rattle.desk_crew.proofs.crew.Crew.end.Goals as goal
 
@@ -27,5 +27,7 @@ returns-clause-ok g c start text held stands =
     let old = c.args.self.now in
     let now = c.end_line.new.self in
     let same = c.end_line.ensures.same in
+    Answered-now g.A.Responder.may_tell g.W.Sink start c.args.given _ c.settle.new.self.standing c.settle.new.writer c.report.result
     (c.in_ok-settle.ensures.ok start (ended_lines text) (last_line (cut_of text).rest) (last_so text old.text.items now.text.items held c.in_ok-end_line.ensures.text)
-    (Waits-nothing g.A.Responder.may_tell g.W.Sink start c.args.given (ended_lines text) old.standing now.standing c.args.writer.now (answers_in_rooms now.waiting) same.0 (ap answers_in_rooms same.1 ∙ c.requires.none) stands)).answered
+    (Waits-nothing g.A.Responder.may_tell g.W.Sink start c.args.given (ended_lines text) old.standing now.standing c.args.writer.now (answers_in_rooms now.waiting) same.0 (ap answers_in_rooms same.1 ∙ c.requires.none) stands))
+    c.report.ensures.counts c.report.ensures.slip

@@ -37,14 +37,14 @@ returns-clause-ok g c from start text ahead =
     let may = g.A.Responder.may_tell in
     let old = c.args.self.now in
     let begun = c.begin-rules in
-    let next : Standing = record { profile = begun.new.self.profile; report = c.gather.new.report } in
+    let next : Standing = record { profile = begun.new.self.profile; tally = c.gather.new.tally } in
     let hand = ended_lines c.as_slice-text.result.now in
     let as_these = subst (λ (t : List ℕ). AreToldAs 4096 (ended_lines t) (later_lines text ahead.bytes)) (sym c.as_slice-text.ensures.value) (told_so may g.R.Source g.W.Sink from start c.args.given text old.text.items (answers_in_rooms old.waiting) old.standing c.args.reader.now c.args.writer.now ahead) in
     let further = Ahead-more may g.R.Source g.W.Sink from start c.args.given text old.text.items (answers_in_rooms old.waiting) c.as_slice-text.result.now (answers_in_rooms old.waiting) _ c.swap.new.x.items (answers_in_rooms c.gather.new.self) old.standing next c.args.reader.now _ c.args.writer.now _ _ c.in_ok-stop.stop ahead
     c.as_slice-text.ensures.value refl c.in_ok-stop.ensures.other.met.1.0 (ap (λ v. v.items) c.swap.ensures.x_after)
     (λ stands.
     Waits-more may g.W.Sink start c.args.given (alike g) begun.result.0 (ended_lines text) hand (later_lines text ahead.bytes) (ended_lines begun.result.1.now) old.standing begun.new.self next _ (answers_in_rooms c.gather.new.self) as_these stands
-    begun.ensures.profile begun.ensures.rules begun.ensures.records begun.ensures.same c.in_ok-gather.ensures.ok refl) in
+    begun.ensures.profile begun.ensures.rules begun.ensures.records begun.ensures.tally c.in_ok-gather.ensures.ok refl) in
     (text ++ ahead.bytes, search (rules, further))
 
 pub invariant_of-self : goal.invariant_of-self

@@ -1,14 +1,14 @@
 use Rattle.std.proofs.Common.{◌≡◌, ◌∙◌, ◌<◌, ◌≤◌, ℕ, ◌+◌, ◌*◌, List, [], ◌++◌, map, ap, sym, subst, refl, take, length, arith}
 use Rattle.std.specs.List.{concat}
 use Rattle.std.proofs.lemmas.List.{take_all}
-use Rattle.desk_lines.specs.LineAnswer.{line_kind}
 use Rattle.desk_lines.specs.Lines.{ended_lines}
 use Rattle.desk_lines.specs.Records.{AreTold}
-use Rattle.desk_lines.specs.declared.report.DeskReport.{DeskReport}
-use Rattle.desk_lines.specs.Telling.{report_of, text_of}
+use Rattle.desk_lines.specs.declared.tally.Tally.{Tally}
+use Rattle.desk_lines.specs.Slips.{both_tallies, tally_of}
+use Rattle.desk_lines.specs.Telling.{text_of}
 use Rattle.desk_lines.proofs.TellingLemmas.{text_of_append}
-use Rattle.desk_crew.specs.Pieces.{AreCounted, edge, lines_between, both_reports}
-use Rattle.desk_crew.proofs.PieceLemmas.{both-none, both_from, both-assoc, counted-append, lines_to, piece_on, joined_set}
+use Rattle.desk_crew.specs.Pieces.{AreCounted, edge, lines_between}
+use Rattle.desk_crew.proofs.PieceLemmas.{tally-none, tallies-assoc, tally-append, lines_to, piece_on, joined_set}
 use Rattle.desk_crew.proofs.rooms.Rooms.gather.Goals as goal
 
 pub loop-number-init : goal.loop-number-init
@@ -19,7 +19,7 @@ loop-number-init g c =
         answered = c.requires.answered;
         are_told = subst (λ (n : ℕ). AreTold g.A.Responder.may_tell c.args.rules (ended_lines (take n c.args.text.now)) []) (sym none) refl;
         answers = refl;
-        report = both-none c.args.report.now ∙ ap (λ (n : ℕ). both_reports c.args.report.now (report_of (map (line_kind c.args.rules) (ended_lines (take n c.args.text.now))))) (sym none);
+        tally = tally-none c.args.tally.now ∙ ap (λ (n : ℕ). both_tallies c.args.tally.now (tally_of c.args.rules (ended_lines (take n c.args.text.now)))) (sym none);
       },
     )
 
@@ -34,21 +34,20 @@ loop-number-preserved g c =
     let rooms = c.loop-number.self.rooms.items in
     let within : number < length rooms = let test = c.loop-number-test.true in let end = c.len-number-end.ensures in let all = c.loop-number.self.all in let first = c.args.self.now.all in omega (arith, test, end, all, first) in
     let more : AreCounted may rules (lines_between text (edge text size number) (edge text size (number + 1))) c.take_piece.new.room.items c.in-Some.more = c.in-Some.ensures.taken in
-    let before = c.args.report.now in
-    let counted : List (List ℕ) → DeskReport = λ lines. report_of (map (line_kind rules) lines) in
+    let before = c.args.tally.now in
+    let come_to : List (List ℕ) → Tally = tally_of rules in
     let done = ended_lines (take (edge text size number) text) in
     let next = lines_between text (edge text size number) (edge text size (number + 1)) in
-    let sums = c.in_ok-report.ensures.ok in
-    let sum : c.in_ok-report.field-0 ≡ both_reports c.loop-number.report c.in-Some.more = both_from c.loop-number.report c.in-Some.more c.in_ok-report.field-0 sums.0 sums.1 in (
+    let sum : c.in_ok-tally.field-0 ≡ both_tallies c.loop-number.tally c.in-Some.more = c.in_ok-tally.ensures.ok in (
       so_far.0 ++ more.told,
       record {
         answered = c.in-Some.ensures.left;
         are_told = piece_on may rules text size number so_far.0 more.told so_far.1.are_told more.are_told;
         answers = joined_set (λ room. room.items) rooms number c.take_piece.new.room within ∙ ap (λ (t : List ℕ). concat (map (λ room. room.items) (take number rooms)) ++ t) more.text_is
             ∙ ap (λ (t : List ℕ). t ++ text_of more.told) so_far.1.answers ∙ sym (text_of_append so_far.0 more.told);
-        report = sum ∙ ap (λ (r : DeskReport). both_reports r c.in-Some.more) so_far.1.report ∙ both-assoc before (counted done) c.in-Some.more
-            ∙ ap (λ (r : DeskReport). both_reports before (both_reports (counted done) r)) more.report_is ∙ ap (both_reports before) (sym (counted-append rules done next))
-            ∙ ap (λ ls. both_reports before (counted ls)) (sym (lines_to text size number));
+        tally = sum ∙ ap (λ (t : Tally). both_tallies t c.in-Some.more) so_far.1.tally ∙ tallies-assoc before (come_to done) c.in-Some.more
+            ∙ ap (λ (t : Tally). both_tallies before (both_tallies (come_to done) t)) more.tally_is ∙ ap (both_tallies before) (sym (tally-append rules done next))
+            ∙ ap (λ ls. both_tallies before (come_to ls)) (sym (lines_to text size number));
       },
     )
 
@@ -66,5 +65,5 @@ returns-clause-ok g c =
       told = so_far.0;
       are_told = subst (λ (t : List ℕ). AreTold g.A.Responder.may_tell c.args.rules (ended_lines t) so_far.0) whole so_far.1.are_told;
       text_is = ap (λ l. concat (map (λ room. room.items) l)) (sym (take_all number rooms past)) ∙ so_far.1.answers;
-      report_is = so_far.1.report ∙ ap (λ (t : List ℕ). both_reports c.args.report.now (report_of (map (line_kind c.args.rules) (ended_lines t)))) whole;
+      tally_is = so_far.1.tally ∙ ap (λ (t : List ℕ). both_tallies c.args.tally.now (tally_of c.args.rules (ended_lines t))) whole;
     }

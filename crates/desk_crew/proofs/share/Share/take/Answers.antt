@@ -4,7 +4,7 @@ use Rattle.std.specs.List.{All}
 use Rattle.std.proofs.lemmas.List.{get_or_default}
 use Rattle.std.proofs.lemmas.List.Elements.{All-set}
 use Rattle.desk_crew.specs.declared.piece.Piece.{Piece}
-use Rattle.desk_lines.specs.declared.report.DeskReport.{DeskReport}
+use Rattle.desk_lines.specs.declared.tally.Tally.{Tally}
 use Rattle.desk_crew.specs.declared.share.Share.{Share}
 use Rattle.desk_crew.specs.Pieces.{HasAnswers, IsWithout}
 use Rattle.desk_crew.proofs.PieceLemmas.{taken, claims_nothing}
@@ -26,18 +26,18 @@ returns-then-index-number-clause-taken g c =
     let same : piece ≡ c.index.result.now = c.index_mut.ensures.value ∙ get_or_default pieces place piece c.index.result.now within ∙ sym c.index.ensures in
     taken may c.args.rules c.args.text.now c.args.size c.args.number piece c.take.result c.take.new.room.items
     (subst (HasAnswers may c.args.rules c.args.text.now c.args.size) (sym c.index_mut.ensures.value) (answered g (goal.at.returns-then-index-number-clause-taken g c).After-take place piece within))
-    (ap (λ (p : Piece). p.number) same ∙ c.if-index-number.true) c.take.ensures.report.0 (ap (λ v. v.items) c.take.ensures.answers)
+    (ap (λ (p : Piece). p.number) same ∙ c.if-index-number.true) c.take.ensures.tally.0 (ap (λ v. v.items) c.take.ensures.answers)
 
 pub returns-then-index-number-clause-left : goal.returns-then-index-number-clause-left
 returns-then-index-number-clause-left g c =
     All-set (HasAnswers g.A.Responder.may_tell c.args.rules c.args.text.now c.args.size) c.loop-place.self.pieces.items c.loop-place.place c.take.new.self
-    (claims_nothing g.A.Responder.may_tell c.args.rules c.args.text.now c.args.size c.take.new.self c.take.ensures.report.1) (answered g (goal.at.returns-then-index-number-clause-left g c).After-take)
+    (claims_nothing g.A.Responder.may_tell c.args.rules c.args.text.now c.args.size c.take.new.self c.take.ensures.tally.1) (answered g (goal.at.returns-then-index-number-clause-left g c).After-take)
 
--- a piece that has the number has no report
-without : (number : ℕ) (share : Share) (place : ℕ) (piece : Piece) (result : Option DeskReport) → place < length share.pieces.items → get_or share.pieces.items place piece ≡ piece → piece.number ≡ number → result ≡ piece.report
+-- a piece that has the number has no tally
+without : (number : ℕ) (share : Share) (place : ℕ) (piece : Piece) (result : Option Tally) → place < length share.pieces.items → get_or share.pieces.items place piece ≡ piece → piece.number ≡ number → result ≡ piece.tally
     → IfNone result (IsWithout number share)
-without number share place piece None within is at report = inr (place, piece, within, is, (at, sym report))
-without number share place piece (Some counted) within is at report = tt
+without number share place piece None within is at tally = inr (place, piece, within, is, (at, sym tally))
+without number share place piece (Some counted) within is at tally = tt
 
 pub returns-then-index-number-clause-none : goal.returns-then-index-number-clause-none
 returns-then-index-number-clause-none g c =
@@ -48,4 +48,4 @@ returns-then-index-number-clause-none g c =
     let inside : place < length pieces = subst (λ (ps : List Piece). place < length ps) (sym c.loop-place.invariant.same) within in
     let same : piece ≡ c.index.result.now = c.index_mut.ensures.value ∙ get_or_default pieces place piece c.index.result.now inside ∙ sym c.index.ensures in
     let is : get_or c.args.self.now.pieces.items place piece ≡ piece = sym (c.index_mut.ensures.value ∙ ap (λ (ps : List Piece). get_or ps place piece) c.loop-place.invariant.same) in
-    without c.args.number c.args.self.now place piece c.take.result within is (ap (λ (p : Piece). p.number) same ∙ c.if-index-number.true) c.take.ensures.report.0
+    without c.args.number c.args.self.now place piece c.take.result within is (ap (λ (p : Piece). p.number) same ∙ c.if-index-number.true) c.take.ensures.tally.0

@@ -27,6 +27,6 @@ returns-in-Ok-clause-ok g c =
             ∙ ap (λ (n : ℕ). old.answers.text.items ++ (head_of names n ++ shown)) answered.counted.count
             ∙ ap (λ before. before ++ (head_of names (length texts) ++ shown)) answered.told
             ∙ sym (score_by-last names rules texts got.0);
-        counted = counted rules texts got.0 (record { count = answered.counted.count; limit = answered.counted.limit; report = answered.counted.report }) got.3;
+        counted = counted rules texts got.0 (record { count = answered.counted.count; limit = answered.counted.limit; report = answered.counted.report; slips = answered.counted.slips }) got.3;
       },
     )) c.count_table.ensures.ok

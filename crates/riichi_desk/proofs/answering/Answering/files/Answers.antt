@@ -3,7 +3,7 @@ use Rattle.desk_io.specs.declared.sink.Sink.{Ghosts as OfSink}
 use Rattle.desk_cli.specs.declared.request.Manner.{Manner}
 use Rattle.desk_lines.specs.Lines.{lines}
 use Rattle.riichi_desk.specs.Answering.{AnswersTexts, IsAnswered, has_refusal, none, one_more}
-use Rattle.riichi_desk.proofs.answering.Answering.files.Goals.{then-eq+in_ok-is_refused, else-eq+in_ok-open_file+in_ok-is_refused-2}
+use Rattle.riichi_desk.proofs.answering.Answering.files.Goals.{then-eq+in_ok-is_refused, else-eq+in_ok-stream+in_ok-is_refused-2}
 use Rattle.riichi_desk.proofs.answering.Answering.files.Goals as goal
 
 -- one more text is answered
@@ -35,11 +35,11 @@ loop-file-preserved g c = elim c.if-eq.branch [
         manner = ap (λ s. s.manner) w.self-is ∙ e.kept ∙ l.invariant.manner;
         answered = next g.W.Sink _ l.self.manner _ _ _ _ _ _ _ _ l.invariant.manner l.invariant.answered e.answered (ap (λ s. s.writer) w.self-is) w.is_refused-is;
       }
-  | else-eq+in_ok-open_file+in_ok-is_refused-2 w ↦
+  | else-eq+in_ok-stream+in_ok-is_refused-2 w ↦
       let l = c.loop-file in
       let e = w.in_ok-is_refused-2.ensures in
       record {
         manner = ap (λ s. s.manner) w.self-is ∙ e.kept ∙ l.invariant.manner;
-        answered = next g.W.Sink _ l.self.manner _ _ _ _ _ _ _ _ l.invariant.manner l.invariant.answered (e.answered.0, e.answered.2, e.answered.3) (ap (λ s. s.writer) w.self-is) w.is_refused-is;
+        answered = next g.W.Sink _ l.self.manner _ _ _ _ _ _ _ _ l.invariant.manner l.invariant.answered e.answered (ap (λ s. s.writer) w.self-is) w.is_refused-is;
       }
 ]
