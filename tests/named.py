@@ -108,7 +108,9 @@ def test_paths(top: Path, pages: list[Path], told: Callable[[str, object, object
         paths = re.findall(rf"({CRATE}/(?:src|specs|proofs|must-fail)/[\w/.-]+\.\w+)", text)
         names = re.findall(rf"({CRATE})::((?:\w+::)*\w+)", text)
         bad = [it for it in paths if not (top / "crates" / it).is_file()]
-        bad += [f"{crate}::{name}" for crate, name in names if crate in crates and not crates[crate].names(name.split("::")[-1])]
+        # (the package for Rust has the name of the program's crate)
+        ours = [it for it in names if it[0] in crates and (it[0] != "riichi_desk" or page.parts[:2] != ("packaging", "rust"))]
+        bad += [f"{crate}::{name}" for crate, name in ours if not crates[crate].names(name.split("::")[-1])]
         told(f"the files and names of crates in {page}", [], bad)
 
 

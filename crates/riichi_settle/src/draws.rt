@@ -3,7 +3,7 @@ ghost use Rattle.std.specs.Prelude.{◌≡◌, ◌≤◌, ◌<◌, ◌+◌, ◌+
 ghost use Rattle.riichi_table.specs.Players.{of_player, count_of};
 ghost use Rattle.riichi_settle.specs.Draws as spec;
 
-use crate::moved::{Moves, Reason, push_paid};
+use crate::moved::{MOST_MOVES, Moves, Reason, push_paid};
 use crate::tsumos::{Drawn, price_between, push_drawn};
 use riichi_table::{ByPlayer, ChomboCost, Player, Worth};
 
@@ -91,7 +91,7 @@ fn push_unready(moves: &mut Moves, ready: &ByPlayer<bool>, payer: Player)
 
 #[tactic(auto, unfolding(crate::specs::Draws::share_between))]
 fn push_share(moves: &mut Moves, ready: &ByPlayer<bool>, payer: Player, payee: Player)
-    requires { length moves.old.items < 40 }
+    requires { length moves.old.items < MOST_MOVES }
     ensures items { moves.new.items ≡ moves.old.items ++ spec.share_between ready.now payer payee }
     ensures most { length moves.new.items ≤ length moves.old.items + 1 }
 {
@@ -131,7 +131,7 @@ pub(crate) fn push_chombo(moves: &mut Moves, cost: ChomboCost, dealer: Player, p
 
 /// What a player whose hand is dead pays another.
 fn push_amends(moves: &mut Moves, dealer: Player, player: Player, other: Player)
-    requires { length moves.old.items < 40 }
+    requires { length moves.old.items < MOST_MOVES }
     ensures items { moves.new.items ≡ moves.old.items ++ spec.amends dealer player other }
     ensures most { length moves.new.items ≤ length moves.old.items + 1 }
 {

@@ -18,6 +18,6 @@ mod tsumos;
 mod winning;
 
 pub use making::moves_of;
-pub use moved::{Move, Moves, Reason, Taking};
+pub use moved::{MOST_MOVES, Move, Moves, Reason, Taking};
 pub use settling::{Changes, changes_by, points_after, settle};
 pub use winning::{as_played, nearest, winners};

@@ -72,12 +72,15 @@ impl Default for Move {
     }
 }
 
+/// No outcome moves more.
+pub const MOST_MOVES: usize = 40;
+
 /// What an outcome moves, in the order in which it is told: the bets, what is paid, the sticks.
-pub type Moves = ArrayVec<Move, 40>;
+pub type Moves = ArrayVec<Move, MOST_MOVES>;
 
 /// A payment, where there is something to pay.
 pub(crate) fn push_paid(moves: &mut Moves, from: Player, to: Player, points: u32, why: Reason)
-    requires { length moves.old.items < 40 }
+    requires { length moves.old.items < MOST_MOVES }
     ensures items { moves.new.items ≡ moves.old.items ++ spec.paid from to points why }
     ensures most { length moves.new.items ≤ length moves.old.items + 1 }
 {
@@ -93,7 +96,7 @@ pub(crate) fn push_paid(moves: &mut Moves, from: Player, to: Player, points: u32
 
 /// Sticks that a player takes, where there are any.
 pub(crate) fn push_taken(moves: &mut Moves, to: Player, count: u16, why: Taking)
-    requires { length moves.old.items < 40 }
+    requires { length moves.old.items < MOST_MOVES }
     ensures items { moves.new.items ≡ moves.old.items ++ spec.taken to count why }
     ensures most { length moves.new.items ≤ length moves.old.items + 1 }
 {
@@ -116,7 +119,7 @@ pub(crate) fn push_bets(moves: &mut Moves, riichi: &ByPlayer<bool>)
 }
 
 fn push_bet(moves: &mut Moves, riichi: &ByPlayer<bool>, player: Player)
-    requires { length moves.old.items < 40 }
+    requires { length moves.old.items < MOST_MOVES }
     ensures items { moves.new.items
         ≡ moves.old.items ++ spec.bet (of_player riichi.now player) player }
     ensures most { length moves.new.items ≤ length moves.old.items + 1 }

@@ -3,7 +3,7 @@ ghost use Rattle.std.specs.Prelude.{◌≡◌, ◌≤◌, ◌<◌, ◌+◌, ◌+
 ghost use Rattle.riichi_table.specs.Players.{of_player};
 ghost use Rattle.riichi_settle.specs.Wins as spec;
 
-use crate::moved::{Moves, Reason, Taking, push_paid, push_taken};
+use crate::moved::{MOST_MOVES, Moves, Reason, Taking, push_paid, push_taken};
 use crate::prices::ron_price;
 use crate::winning::{nearest, winners};
 use riichi_table::{
@@ -214,7 +214,7 @@ fn push_own_bets(moves: &mut Moves, own: &ByPlayer<bool>)
 }
 
 fn push_own_bet(moves: &mut Moves, has: bool, player: Player)
-    requires { length moves.old.items < 40 }
+    requires { length moves.old.items < MOST_MOVES }
     ensures items { moves.new.items ≡ moves.old.items ++ spec.own_bet_taken has player }
     ensures most { length moves.new.items ≤ length moves.old.items + 1 }
 {

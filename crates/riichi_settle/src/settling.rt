@@ -5,7 +5,7 @@ ghost use Rattle.riichi_table.specs.Players.{by_players};
 ghost use Rattle.riichi_settle.specs.Settled as spec;
 
 use crate::making::moves_of;
-use crate::moved::{Move, Moves};
+use crate::moved::{MOST_MOVES, Move, Moves};
 use riichi_table::{ByPlayer, GameState, Outcome, Player, TableRules};
 
 /// What moves change: the points of each player, and the sticks that lie afterwards.
@@ -36,7 +36,7 @@ pub fn points_after(points: &ByPlayer<i32>, moves: &Moves) -> ByPlayer<i64>
 }
 
 fn changed(points: i32, moves: &[Move], player: Player) -> i64
-    requires { length moves.now ≤ 40 }
+    requires { length moves.now ≤ MOST_MOVES }
     ensures { result ≡ points +ℤ spec.change_by moves.now player }
 {
     i64::from(points) + change(moves, player)
@@ -54,7 +54,7 @@ pub fn changes_by(sticks: u8, moves: &Moves) -> Changes
 }
 
 fn points_by(moves: &[Move]) -> ByPlayer<i64>
-    requires { length moves.now ≤ 40 }
+    requires { length moves.now ≤ MOST_MOVES }
     ensures { result ≡ by_players (spec.change_by moves.now) }
 {
     ByPlayer {
@@ -67,7 +67,7 @@ fn points_by(moves: &[Move]) -> ByPlayer<i64>
 
 #[tactic(auto, unfolding(crate::specs::Settled::change_by))]
 fn change(moves: &[Move], player: Player) -> i64
-    requires { length moves.now ≤ 40 }
+    requires { length moves.now ≤ MOST_MOVES }
     ensures value { result ≡ spec.change_by moves.now player }
     ensures least { negsuc 199999999999 ≤ℤ result }
     ensures most { result ≤ℤ pos 200000000000 }
@@ -76,9 +76,9 @@ fn change(moves: &[Move], player: Player) -> i64
 }
 
 fn received(moves: &[Move], player: Player) -> u64
-    requires { length moves.now ≤ 40 }
+    requires { length moves.now ≤ MOST_MOVES }
     ensures value { result ≡ sum_by (spec.got_by player) moves.now }
-    ensures most { result ≤ 4294967296 * 40 }
+    ensures most { result ≤ 4294967296 * MOST_MOVES }
 {
     let mut sum = 0;
     for step in moves {
@@ -105,9 +105,9 @@ fn amount_if(holds: bool, points: u32) -> u64
 }
 
 fn given(moves: &[Move], player: Player) -> u64
-    requires { length moves.now ≤ 40 }
+    requires { length moves.now ≤ MOST_MOVES }
     ensures value { result ≡ sum_by (spec.given_by player) moves.now }
-    ensures most { result ≤ 4294967296 * 40 }
+    ensures most { result ≤ 4294967296 * MOST_MOVES }
 {
     let mut sum = 0;
     for step in moves {
@@ -129,7 +129,7 @@ fn given_by(player: Player, step: &Move) -> u64
 
 #[tactic(auto, unfolding(crate::specs::Settled::sticks_by))]
 fn sticks_after(sticks: u8, moves: &[Move]) -> u16
-    requires { length moves.now ≤ 40 }
+    requires { length moves.now ≤ MOST_MOVES }
     ensures { result ≡ spec.sticks_by sticks moves.now }
 {
     let lying = u32::from(sticks) + bet(moves);
@@ -138,9 +138,9 @@ fn sticks_after(sticks: u8, moves: &[Move]) -> u16
 
 /// How many sticks are bet.
 fn bet(moves: &[Move]) -> u32
-    requires { length moves.now ≤ 40 }
+    requires { length moves.now ≤ MOST_MOVES }
     ensures value { result ≡ sum_by spec.sticks_bet moves.now }
-    ensures most { result ≤ 40 }
+    ensures most { result ≤ MOST_MOVES }
 {
     let mut sum = 0;
     for step in moves {
@@ -161,7 +161,7 @@ fn sticks_bet(step: &Move) -> u32
 
 /// How many sticks are taken.
 fn taken(moves: &[Move]) -> u32
-    requires { length moves.now ≤ 40 }
+    requires { length moves.now ≤ MOST_MOVES }
     ensures { result ≡ sum_by spec.sticks_taken moves.now }
 {
     let mut sum = 0;
