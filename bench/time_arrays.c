@@ -68,6 +68,23 @@ static void win_a_call(void) {
 
 static void wins(void) { riichi_wins(RIICHI_RULES_ONE, (const struct riichi_win *)counts, hands, scores, hands); }
 
+/* Each two wins as a deal with two hands: two players win off a third, in a game that begins anew each time. */
+static void deals(void) {
+    struct riichi_table table;
+    struct riichi_progress first, progress;
+    const struct riichi_win *hand = (const struct riichi_win *)counts;
+    uint32_t fault;
+    riichi_game_table(RIICHI_CLUB, &table);
+    riichi_game_first(&table, &first);
+    for (size_t i = 0; i + 1 < hands; i += 2) {
+        struct riichi_outcome ron = {.kind = RIICHI_RON, .player = 2};
+        riichi_game_worth(&table, &first, 0, RIICHI_RON, hand + i, &ron.wins[0]);
+        riichi_game_worth(&table, &first, 1, RIICHI_RON, hand + i + 1, &ron.wins[1]);
+        progress = first;
+        riichi_game_after(&table, &progress, &ron, 1, &fault);
+    }
+}
+
 static void tell(const char *name, void (*work)(void)) {
     double least = 1e30;
     for (int run = 0; run < RUNS; run++) {
@@ -107,5 +124,6 @@ int main(int count, char **words) {
     tell("C, lines of wins, one call", many_lines);
     tell("C, wins, a call each", win_a_call);
     tell("C, wins, one call", wins);
+    tell("C, wins, two a deal of a game", deals);
     return 0;
 }
