@@ -23,6 +23,6 @@ mod values;
 mod won;
 
 pub use game::{Progress, after_all};
-pub use hands::{NoWorth, win_record, worth_of_win};
+pub use hands::{NoWorth, win_record, worth_of_score, worth_of_win};
 pub use refusals::fault;
 pub use values::{LimitHand, counted_worth, limit_worth, most_limits, occurs};

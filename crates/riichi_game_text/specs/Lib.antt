@@ -6,3 +6,8 @@ pub mod TableWords
 pub mod GameLines
 pub mod Answers
 pub mod FinalTexts
+pub mod Forms
+pub mod Listed
+pub mod HandLines
+pub mod FaultTexts
+pub mod Written

@@ -8,12 +8,17 @@
 #![tactic(auto)]
 
 mod answers;
+mod fault;
 mod final_texts;
+mod forms;
 mod game_line;
+mod hand_line;
+mod listed;
 mod name;
 mod numbers;
 mod setting;
 mod table_words;
+mod value;
 mod values;
 mod words;
 
@@ -21,6 +26,7 @@ pub use answers::{
     MOST_BEGUN, MOST_DEAL, MOST_PENALTY, MOST_STANDS, push_begun, push_deal, push_penalty,
     push_stands,
 };
+pub use fault::{GameFault, HandFault, MOST_REFUSED, push_refused};
 pub use final_texts::{MOST_FINAL, MOST_OVER, push_over};
 pub use game_line::{GameLine, read_game};
 pub use name::{MOST_NAME, Name, Names};
