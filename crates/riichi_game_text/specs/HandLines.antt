@@ -23,6 +23,11 @@ abbrev pub entry_words : List (List ℕ) → List (List ℕ)
 entry_words [] = []
 entry_words (word ∷ words) = if has_equals word then word ∷ entry_words words else []
 
+-- what stands behind them
+abbrev pub behind_entries : List (List ℕ) → List (List ℕ)
+behind_entries [] = []
+behind_entries (word ∷ words) = if has_equals word then behind_entries words else word ∷ words
+
 -- ---- the line of a win
 
 abbrev pub by_word : By → List ℕ

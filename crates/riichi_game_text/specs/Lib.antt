@@ -11,3 +11,4 @@ pub mod Listed
 pub mod HandLines
 pub mod FaultTexts
 pub mod Written
+pub mod Wins

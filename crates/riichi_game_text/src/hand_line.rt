@@ -5,6 +5,7 @@ ghost use Rattle.arrayvec.specs.ArrayString.{array_string_len};
 ghost use Rattle.riichi_hand.specs.Lines.{outcome_of};
 ghost use Rattle.riichi_game_text.specs.Words.{said_in};
 ghost use Rattle.riichi_game_text.specs.HandLines as spec;
+ghost use Rattle.riichi_game_text.specs.HandLines.{behind_entries};
 
 use crate::table_words::{key_of, value_of};
 use crate::words::{has_equals, next_said};
@@ -178,7 +179,9 @@ fn riichi_word(bets: bool) -> &'static str
 
 /// The next word, where it has `=`, and all that comes after it.
 pub(crate) fn next_entry(text: &[u8]) -> Option<(&[u8], &[u8])>
-    ensures { MatchOption result (spec.entry_words (said_in text.now) ≡ [])
+    ensures behind { MatchOption result (behind_entries (said_in text.now) ≡ said_in text.now)
+        (λ found. behind_entries (said_in text.now) ≡ behind_entries (said_in found.1.now)) }
+    ensures words { MatchOption result (spec.entry_words (said_in text.now) ≡ [])
         (λ found. (spec.entry_words (said_in text.now)
             ≡ found.0.now ∷ spec.entry_words (said_in found.1.now))
         × (length found.1.now < length text.now)) }

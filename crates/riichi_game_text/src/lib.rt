@@ -20,6 +20,7 @@ mod setting;
 mod table_words;
 mod value;
 mod values;
+mod win;
 mod words;
 
 pub use answers::{
