@@ -12,3 +12,5 @@ pub mod HandLines
 pub mod FaultTexts
 pub mod Written
 pub mod Wins
+pub mod Won
+pub mod PlainLines

@@ -16,11 +16,13 @@ mod hand_line;
 mod listed;
 mod name;
 mod numbers;
+mod plain_lines;
 mod setting;
 mod table_words;
 mod value;
 mod values;
 mod win;
+mod won;
 mod words;
 
 pub use answers::{
