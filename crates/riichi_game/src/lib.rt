@@ -22,6 +22,7 @@ mod refusals;
 mod values;
 mod won;
 
+pub use ends::has_round;
 pub use game::{Progress, after_all};
 pub use hands::{NoWorth, win_record, worth_of_score, worth_of_win};
 pub use refusals::fault;

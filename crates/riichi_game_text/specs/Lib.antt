@@ -14,3 +14,4 @@ pub mod Written
 pub mod Wins
 pub mod Won
 pub mod PlainLines
+pub mod Rons

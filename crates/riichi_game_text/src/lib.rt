@@ -17,6 +17,8 @@ mod listed;
 mod name;
 mod numbers;
 mod plain_lines;
+mod ron_form;
+mod rons;
 mod setting;
 mod table_words;
 mod value;

@@ -17,7 +17,7 @@ use riichi_hand::By;
 use riichi_table::{ByPlayer, GameState, Liable, Outcome, Player, TableRules, Win};
 
 /// What a hand says of a bet.
-fn riichi_said<'a>(win: &WrittenWin<'a>) -> Option<&'a [u8]>
+pub(crate) fn riichi_said<'a>(win: &WrittenWin<'a>) -> Option<&'a [u8]>
     ensures { option_map (λ value. value.now) result
         ≡ spec.riichi_said (said_win win.now).value (said_win win.now).words }
 {
@@ -36,7 +36,7 @@ fn says_bet(value: Option<&[u8]>) -> bool
     }
 }
 
-fn denies_bet(value: Option<&[u8]>) -> bool
+pub(crate) fn denies_bet(value: Option<&[u8]>) -> bool
     ensures { result ≡ spec.denies_bet (option_map (λ value. value.now) value.entry) }
 {
     match value {
@@ -47,7 +47,7 @@ fn denies_bet(value: Option<&[u8]>) -> bool
 
 /// What a player wins, or the first fault of the value, the hand and the limits that somebody is liable for.
 #[tactic(auto, unfolding(crate::specs::Won::win_of))]
-fn win_of(
+pub(crate) fn win_of(
     rules: &TableRules,
     state: &GameState,
     by: By,
@@ -146,7 +146,7 @@ fn tsumo_form(text: &[u8]) -> Option<(WrittenWin<'_>, Option<&[u8]>)>
 }
 
 /// Who is liable by name. None where that is no player.
-fn liable_named(names: &Names, liable: &Option<WrittenLiable<'_>>) -> Option<Option<Player>>
+pub(crate) fn liable_named(names: &Names, liable: &Option<WrittenLiable<'_>>) -> Option<Option<Player>>
     ensures { result
         ≡ spec.liable_named (names_in names.now) (option_map said_liable liable.now) }
 {
@@ -180,7 +180,7 @@ fn is_liable(liable: Option<Player>, winner: Player) -> bool
 }
 
 /// Who bets by the list, and by the winner's hand.
-fn bets_with(riichi: ByPlayer<bool>, winner: Player, win: &WrittenWin<'_>) -> ByPlayer<bool>
+pub(crate) fn bets_with(riichi: ByPlayer<bool>, winner: Player, win: &WrittenWin<'_>) -> ByPlayer<bool>
     ensures { result ≡ spec.bets_with riichi winner (said_win win.now) }
 {
     let bets = riichi.get(winner) || says_bet(riichi_said(win));
