@@ -15,3 +15,5 @@ pub mod Wins
 pub mod Won
 pub mod PlainLines
 pub mod Rons
+pub mod StandsLines
+pub mod Entries

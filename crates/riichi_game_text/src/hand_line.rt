@@ -92,7 +92,8 @@ fn win_in(job: &Job) -> Result<WinRecord, LineFault>
 #[tactic(auto, using(crate::proofs::LongLines::longer))]
 fn push_hand_line(line: &mut HandLine, known: &Known, hand: &[u8], behind: &[u8]) -> Option<()>
     requires { line.old.items ≡ [] }
-    ensures { let whole = spec.hand_line known.now hand.now (spec.entry_words (said_in behind.now)) in
+    ensures { let words = spec.entry_words (said_in behind.now) in
+        let whole = spec.hand_line known.now hand.now words in
         MatchOption result (4096 < length whole) (λ _. line.new.items ≡ whole) }
 {
     push(line, b"win ")?;
@@ -104,7 +105,8 @@ fn push_hand_line(line: &mut HandLine, known: &Known, hand: &[u8], behind: &[u8]
 /// Writes the words with `=` that come next, each behind a space.
 #[tactic(auto, using(crate::proofs::LongLines::longer))]
 fn push_entries(line: &mut HandLine, text: &[u8]) -> Option<()>
-    ensures { let whole = line.old.items ++ flat_map spec.spaced (spec.entry_words (said_in text.now)) in
+    ensures { let words = spec.entry_words (said_in text.now) in
+        let whole = line.old.items ++ flat_map spec.spaced words in
         MatchOption result (4096 < length whole) (λ _. line.new.items ≡ whole) }
 {
     let mut rest = text;

@@ -8,6 +8,7 @@
 #![tactic(auto)]
 
 mod answers;
+mod entry;
 mod fault;
 mod final_texts;
 mod forms;
@@ -20,6 +21,7 @@ mod plain_lines;
 mod ron_form;
 mod rons;
 mod setting;
+mod stands;
 mod table_words;
 mod value;
 mod values;
@@ -31,6 +33,7 @@ pub use answers::{
     MOST_BEGUN, MOST_DEAL, MOST_PENALTY, MOST_STANDS, push_begun, push_deal, push_penalty,
     push_stands,
 };
+pub use entry::read_entry;
 pub use fault::{GameFault, HandFault, MOST_REFUSED, push_refused};
 pub use final_texts::{MOST_FINAL, MOST_OVER, push_over};
 pub use game_line::{GameLine, read_game};

@@ -120,7 +120,8 @@ pub(crate) fn value_worth(
     hand: &[u8],
     behind: &[u8],
 ) -> Result<ValueWorth, GameFault>
-    ensures { result ≡ spec.value_worth rules known.now value hand.now (entry_words (said_in behind.now)) }
+    ensures { let words = entry_words (said_in behind.now) in
+        result ≡ spec.value_worth rules known.now value hand.now words }
 {
     match value {
         WrittenValue::Counted { han, fu } => counted_value(rules, known.by, han, fu),
