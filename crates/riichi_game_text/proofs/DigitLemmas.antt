@@ -1,5 +1,5 @@
 -- How great a number of some digits can be.
-use Rattle.std.proofs.Common.{ℕ, zero, suc, ◌+◌, ◌*◌, ◌≤◌, arith}
+use Rattle.std.proofs.Common.{ℕ, zero, suc, ◌*◌, ◌≤◌, arith}
 
 -- the first number that has more digits
 abbrev pub most : ℕ → ℕ

@@ -1,11 +1,11 @@
 -- The line that begins a game.
-use Rattle.std.specs.Prelude.{◌≡◌, ℕ, List, codes, Option, None, Some}
+use Rattle.std.specs.Prelude.{ℕ, List, codes, Option, None, Some}
 use Rattle.riichi_hand.specs.Rules.{Rules}
 use Rattle.riichi_table.specs.declared.player.ByPlayer.{ByPlayer}
 use Rattle.riichi_table.specs.declared.rules.TableRules.{TableRules}
 use Rattle.riichi_game_text.specs.Words.{name_words, rule_words}
 use Rattle.riichi_game_text.specs.Names.{names_said, names_in}
-use Rattle.riichi_game_text.specs.TableWords.{IsHandRules, first_value, rules_of, number_if_said}
+use Rattle.riichi_game_text.specs.TableWords.{first_value, rules_of, number_if_said}
 use Rattle.riichi_game_text.specs.declared.game_line.GameLine.{GameLine}
 
 -- names, rules, and where the game stands in a tournament

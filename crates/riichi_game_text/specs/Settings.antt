@@ -1,5 +1,5 @@
 -- The words of the rules of a table, and what each says.
-use Rattle.std.specs.Prelude.{ℕ, List, [], ◌∷◌, codes, Bool, true, false, Option, None, Some, option_map, is_some, ℤ, if◌then◌else◌}
+use Rattle.std.specs.Prelude.{ℕ, List, [], ◌∷◌, codes, Bool, true, false, Option, None, Some, option_map, ℤ, if◌then◌else◌}
 use Rattle.riichi_tiles.specs.Melds.{cut_at}
 use Rattle.std.specs.Str.{bytes_eq}
 use Rattle.riichi_hand.specs.Values.{value_beside}

@@ -1,7 +1,6 @@
 -- The rules that the words of a line `game` say.
-use Rattle.std.specs.Prelude.{◌≡◌, ℕ, List, [], ◌∷◌, codes, Bool, true, false, ◌||◌, Option, None, Some, is_some, MatchOption, if◌then◌else◌}
+use Rattle.std.specs.Prelude.{◌≡◌, ℕ, List, [], ◌∷◌, codes, Bool, false, ◌||◌, Option, None, Some, is_some, MatchOption, if◌then◌else◌}
 use Rattle.std.specs.Str.{bytes_eq}
-use Rattle.riichi_tiles.specs.Melds.{cut_at}
 use Rattle.riichi_hand.specs.Rules.{Rules, first_profile}
 use Rattle.riichi_hand.specs.RulesText.{NamesRules}
 use Rattle.riichi_hand.specs.Entries.{cut_at_equals}

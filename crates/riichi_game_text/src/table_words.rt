@@ -148,7 +148,8 @@ pub(crate) fn value_of(word: &[u8]) -> &[u8]
 
 /// The number of a word of a tournament.
 pub(crate) fn number_of_word(text: &[u8], key: &[u8]) -> Option<u32>
-    ensures { result ≡ spec.number_if_said (spec.first_value key.now (rule_words (said_in text.now))) }
+    ensures { let words = rule_words (said_in text.now) in
+        result ≡ spec.number_if_said (spec.first_value key.now words) }
 {
     let value = first_value(text, key)?;
     read_from_one(value)

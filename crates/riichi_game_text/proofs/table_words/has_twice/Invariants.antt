@@ -1,4 +1,4 @@
-use Rattle.std.proofs.Common.{◌≡◌, length, Some}
+use Rattle.std.proofs.Common.{◌≡◌, length}
 use Rattle.riichi_game_text.specs.Words.{said_in, rule_words}
 use Rattle.riichi_game_text.specs.TableWords.{has_twice}
 use Rattle.riichi_game_text.proofs.table_words.has_twice.Given as goal

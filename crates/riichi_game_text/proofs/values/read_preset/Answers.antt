@@ -1,4 +1,4 @@
-use Rattle.std.proofs.Common.{rules, arith, refl, ap}
+use Rattle.std.proofs.Common.{rules, arith, ap}
 use Rattle.std.specs.Prelude.{codes, Some}
 use Rattle.std.proofs.lemmas.Slice.Eq.{text_from_reads}
 use Rattle.riichi_game_text.proofs.values.read_preset.Goals as goal
