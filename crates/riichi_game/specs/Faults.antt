@@ -1,5 +1,5 @@
 -- Why an outcome is refused, and what comes after one that is not.
-use Rattle.std.specs.Prelude.{ℕ, ◌+◌, ◌*◌, Bool, false, not, ◌&&◌, ◌||◌, nat_lt, nat_le, ℤ, pos, negsuc, ◌+ℤ◌, int_lt, int_le, [], ◌∷◌, Option, Some, None, is_some, Result, Ok, Err}
+use Rattle.std.specs.Prelude.{ℕ, ◌+◌, ◌*◌, Bool, false, not, ◌&&◌, nat_lt, nat_le, ℤ, pos, negsuc, int_lt, int_le, [], ◌∷◌, Option, Some, None, Result, Ok, Err}
 use Rattle.std.specs.Ordering.{int_eq}
 use Rattle.riichi_table.specs.Players.{of_player, by_players, with_player, of_some}
 use Rattle.riichi_table.specs.RulesFaults.{cost_points}

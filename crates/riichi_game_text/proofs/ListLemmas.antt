@@ -1,5 +1,5 @@
 -- The names of a list, one after another.
-use Rattle.std.proofs.Common.{◌≡◌, ℕ, List, [], ◌∷◌, Bool, Option, None, Some, refl, ap, ◌∙◌, sym}
+use Rattle.std.proofs.Common.{◌≡◌, ℕ, List, [], ◌∷◌, Bool, Option, None, Some, refl, ap, ◌∙◌}
 use Rattle.riichi_tiles.specs.Melds.{cut_at}
 use Rattle.riichi_hand.specs.Words.{items_of}
 use Rattle.riichi_hand.proofs.CutLemmas.{last_item, next_item}

@@ -1,6 +1,6 @@
 -- Lines that are too long.
-use Rattle.std.proofs.Common.{◌≡◌, ℕ, ◌+◌, ◌<◌, ◌≤◌, List, ◌++◌, true, length, Err, Option, Result, refl, arith, length-append, inl, inr}
-use Rattle.std.specs.Prelude.{nat_lt, if◌then◌else◌}
+use Rattle.std.proofs.Common.{◌≡◌, ℕ, ◌<◌, List, ◌++◌, true, length, Err, refl, arith, length-append}
+use Rattle.std.specs.Prelude.{nat_lt}
 use Rattle.riichi_hand.specs.Rules.{Rules}
 use Rattle.riichi_hand.specs.Lines.{outcome_of}
 use Rattle.riichi_hand.specs.declared.fault.LineCode.TheVariants.{H1}

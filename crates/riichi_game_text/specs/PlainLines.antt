@@ -1,5 +1,5 @@
 -- The lines of a game without a hand.
-use Rattle.std.specs.Prelude.{ℕ, List, [], ◌∷◌, Bool, nat_le, Option, None, Some, Result, Ok, Err, if◌then◌else◌}
+use Rattle.std.specs.Prelude.{ℕ, List, [], ◌∷◌, Bool, Option, None, Some, Result, Ok, Err, if◌then◌else◌}
 use Rattle.riichi_table.specs.RulesFaults.{is_points}
 use Rattle.riichi_table.specs.declared.player.Player.{Player}
 use Rattle.riichi_table.specs.declared.player.ByPlayer.{ByPlayer}

@@ -15,7 +15,7 @@ use Rattle.riichi_game_text.specs.Listed.{players_if_said}
 use Rattle.riichi_game_text.specs.Forms.{riichi_at_end}
 use Rattle.riichi_game_text.specs.TableWords.{first_value}
 use Rattle.riichi_game_text.specs.Wins.{SaidWin, said_win, win_at}
-use Rattle.riichi_game_text.specs.Won.{riichi_said, denies_bet, liable_named, is_liable, bets_with, win_of}
+use Rattle.riichi_game_text.specs.Won.{riichi_said, denies_bet, liable_named, bets_with, win_of}
 use Rattle.riichi_game_text.specs.declared.fault.GameFault.{GameFault}
 use Rattle.riichi_game_text.specs.declared.fault.GameFault.TheVariants.{G4, G5, G6}
 use Rattle.riichi_game_text.specs.declared.value.WrittenValue.{WrittenValue}

@@ -1,5 +1,5 @@
 -- A state that is written.
-use Rattle.std.specs.Prelude.{ℕ, ◌+◌, ◌*◌, ◌%◌, ◌==◌, List, [], ◌∷◌, codes, Bool, not, ◌&&◌, ◌||◌, nat_le, ℤ, pos, neg_ℤ, ◌+ℤ◌, Option, None, Some, option_map, is_some, Result, Ok, Err, if◌then◌else◌}
+use Rattle.std.specs.Prelude.{ℕ, ◌*◌, ◌%◌, ◌==◌, List, [], ◌∷◌, codes, Bool, ◌&&◌, nat_le, ℤ, pos, neg_ℤ, ◌+ℤ◌, Option, None, Some, option_map, Result, Ok, Err, if◌then◌else◌}
 use Rattle.std.specs.Ordering.{int_eq}
 use Rattle.std.specs.Str.{bytes_eq}
 use Rattle.riichi_hand.specs.Values.{value_beside}

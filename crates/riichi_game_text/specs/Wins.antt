@@ -7,7 +7,7 @@ use Rattle.riichi_game_text.specs.Forms.{part_at}
 use Rattle.riichi_game_text.specs.HandLines.{entry_words, behind_entries}
 use Rattle.riichi_game_text.specs.Written.{written_value}
 use Rattle.riichi_game_text.specs.declared.value.WrittenValue.{WrittenValue}
-use Rattle.riichi_game_text.specs.declared.value.WrittenValue.TheVariants.{Counted, Limit, Hand}
+use Rattle.riichi_game_text.specs.declared.value.WrittenValue.TheVariants.{Hand}
 use Rattle.riichi_game_text.specs.declared.win.WrittenLiable.{WrittenLiable}
 use Rattle.riichi_game_text.specs.declared.win.WrittenWin.{WrittenWin}
 

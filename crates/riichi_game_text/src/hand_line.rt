@@ -59,12 +59,7 @@ fn known_fault(read: &Result<WinRecord, LineFault>) -> LineFault
 
 /// What the line of a win says.
 #[tactic(auto, using(crate::proofs::LongLines::long_line))]
-fn read_win(
-    rules: Rules,
-    known: &Known,
-    hand: &[u8],
-    behind: &[u8],
-) -> Result<WinRecord, LineFault>
+fn read_win(rules: Rules, known: &Known, hand: &[u8], behind: &[u8]) -> Result<WinRecord, LineFault>
     ensures { result ≡ spec.won_by (outcome_of rules
         (spec.hand_line known.now hand.now (spec.entry_words (said_in behind.now)))) }
 {
@@ -185,7 +180,7 @@ pub(crate) fn next_entry(text: &[u8]) -> Option<(&[u8], &[u8])>
         (λ found. behind_entries (said_in text.now) ≡ behind_entries (said_in found.1.now)) }
     ensures words { MatchOption result (spec.entry_words (said_in text.now) ≡ [])
         (λ found. (spec.entry_words (said_in text.now)
-            ≡ found.0.now ∷ spec.entry_words (said_in found.1.now))
+        ≡ found.0.now ∷ spec.entry_words (said_in found.1.now))
         × (length found.1.now < length text.now)) }
 {
     let (word, rest) = next_said(text)?;

@@ -230,11 +230,7 @@ fn denies_one(riichi: &ByPlayer<bool>, named: &NamedWin, win: &WrittenWin<'_>) -
     riichi.get(named.winner) && denies_bet(riichi_said(win))
 }
 
-fn denies(
-    riichi: &ByPlayer<bool>,
-    named: &Option<NamedWin>,
-    win: &Option<WrittenWin<'_>>,
-) -> bool
+fn denies(riichi: &ByPlayer<bool>, named: &Option<NamedWin>, win: &Option<WrittenWin<'_>>) -> bool
     ensures { result ≡ spec.denies riichi.now named.now (option_map said_win win.now) }
 {
     match (named, win) {

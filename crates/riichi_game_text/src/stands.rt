@@ -79,7 +79,10 @@ fn sum_of(points: &ByPlayer<i32>) -> i64
     ensures least { negsuc 99999999999 ≤ℤ result }
     ensures most { result ≤ℤ pos 99999999999 }
 {
-    plus(plus(plus(i64::from(points.first), points.second), points.third), points.fourth)
+    plus(
+        plus(plus(i64::from(points.first), points.second), points.third),
+        points.fourth,
+    )
 }
 
 /// One number more, of sums that stay far from any limit.
@@ -229,5 +232,9 @@ fn hundreds(digits: &[u8]) -> Option<u32>
     ensures most { IfSome result (λ points. points ≤ 1000000000) }
 {
     let points = read_digits(9, digits)?;
-    if points % 100 == 0 { Some(points) } else { None }
+    if points % 100 == 0 {
+        Some(points)
+    } else {
+        None
+    }
 }

@@ -183,7 +183,11 @@ fn own_limits(rules: Rules, yaku: YakuSet) -> Option<u8>
     ensures { result ≡ spec.own_limits rules yaku }
 {
     if yaku.contains(Yaku::BigFourWinds) {
-        Some(if rules.has(Switch::DoubleYakuman) { 2 } else { 1 })
+        Some(if rules.has(Switch::DoubleYakuman) {
+            2
+        } else {
+            1
+        })
     } else if yaku.contains(Yaku::BigThreeDragons) {
         Some(1)
     } else {

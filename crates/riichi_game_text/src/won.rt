@@ -83,11 +83,7 @@ fn said_limits(liable: &Option<WrittenLiable<'_>>) -> Option<u32>
     }
 }
 
-fn win_with(
-    liable: Option<Player>,
-    said: Option<u32>,
-    value: &ValueWorth,
-) -> Result<Win, GameFault>
+fn win_with(liable: Option<Player>, said: Option<u32>, value: &ValueWorth) -> Result<Win, GameFault>
     ensures { result ≡ spec.win_with liable said value.now }
 {
     match liable {
@@ -146,7 +142,10 @@ fn tsumo_form(text: &[u8]) -> Option<(WrittenWin<'_>, Option<&[u8]>)>
 }
 
 /// Who is liable by name. None where that is no player.
-pub(crate) fn liable_named(names: &Names, liable: &Option<WrittenLiable<'_>>) -> Option<Option<Player>>
+pub(crate) fn liable_named(
+    names: &Names,
+    liable: &Option<WrittenLiable<'_>>,
+) -> Option<Option<Player>>
     ensures { result
         ≡ spec.liable_named (names_in names.now) (option_map said_liable liable.now) }
 {
@@ -180,7 +179,11 @@ fn is_liable(liable: Option<Player>, winner: Player) -> bool
 }
 
 /// Who bets by the list, and by the winner's hand.
-pub(crate) fn bets_with(riichi: ByPlayer<bool>, winner: Player, win: &WrittenWin<'_>) -> ByPlayer<bool>
+pub(crate) fn bets_with(
+    riichi: ByPlayer<bool>,
+    winner: Player,
+    win: &WrittenWin<'_>,
+) -> ByPlayer<bool>
     ensures { result ≡ spec.bets_with riichi winner (said_win win.now) }
 {
     let bets = riichi.get(winner) || says_bet(riichi_said(win));

@@ -8,6 +8,7 @@ use std::process::Abort;
 use std::test::Fail;
 
 /// A game that is being played.
+#[derive(Clone, Copy)]
 pub(crate) struct Play {
     game: GameLine,
     progress: Progress,

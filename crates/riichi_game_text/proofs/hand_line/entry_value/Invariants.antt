@@ -1,7 +1,6 @@
-use Rattle.std.proofs.Common.{◌≡◌, ◌++◌, length}
-use Rattle.std.specs.List.{flat_map}
+use Rattle.std.proofs.Common.{◌≡◌, length}
 use Rattle.riichi_game_text.specs.Words.{said_in}
-use Rattle.riichi_game_text.specs.HandLines.{entry_words, spaced, has_known, entry_value}
+use Rattle.riichi_game_text.specs.HandLines.{entry_value}
 use Rattle.riichi_game_text.proofs.hand_line.entry_value.Given as goal
 
 abbrev pub invariant-loop-word : goal.invariant-loop-word
