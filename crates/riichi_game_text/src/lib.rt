@@ -1,8 +1,9 @@
 //! A text of games of four players: its lines are read, and answered as texts.
 //!
 //! A [`GameLine`] is what the line says that begins a game: the [`Names`] of the players and the rules of the table.
-//! [`read_game`] reads it from the words behind `game`. Each call whose name begins with `push` writes one answer, of at most as
-//! many bytes as the constant beside it says.
+//! [`read_game`] reads it from the words behind `game`. [`read_entry`] reads each other line as the outcome that it says, or as its
+//! first [`GameFault`]. Each call whose name begins with `push` writes one answer, of at most as many bytes as the constant beside
+//! it says.
 //!
 //! All of these are plain values, and no call takes memory. docs/GAME.md has the lines, their answers and the codes of faults.
 #![tactic(auto)]
