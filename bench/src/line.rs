@@ -3,6 +3,9 @@ use crate::house::{House, Switch};
 use crate::kinds::{at_least, Each};
 use crate::tiles::{dora_of, read_meld, read_tiles, Counts, Fault, Meld, Melds, Tiles};
 
+/// A line of so many bytes is read, a longer one refused.
+const LONGEST: usize = 4096;
+
 #[derive(Clone, Copy, PartialEq, Eq, Debug)]
 pub enum LineFault {
     Coded(u8),
@@ -260,7 +263,7 @@ fn keep_dora(win: &mut Win, indicators: &Tiles) {
 /// The job of a line, none where it is no record, or its first fault. Of a plain line all bytes are printable.
 pub fn read_line(house: House, line: &[u8], is_plain: bool) -> Result<Option<Job>, LineFault> {
     use LineFault::Coded;
-    if line.len() > 4096 {
+    if line.len() > LONGEST {
         return Err(Coded(1));
     }
     if line.first() == Some(&b'#') || line.iter().all(|&byte| byte == b' ') {
@@ -289,11 +292,21 @@ pub struct Known {
     pub has_bet: bool,
 }
 
-/// The win of a hand and its words at a table that knows the rest.
+/// The bytes of the line of a win that says what a hand in a game says, and what the game knows.
+fn line_size(hand: &str, words: &[&str], known: &Known) -> usize {
+    let by = if known.is_tsumo { "tsumo" } else { "ron" };
+    let has_riichi = words.iter().any(|word| word.starts_with("riichi="));
+    let riichi = if known.has_bet && !has_riichi { " riichi=1".len() } else { 0 };
+    let told = "win  by= seat=E round=E".len() + by.len() + riichi;
+    told + hand.len() + words.iter().map(|word| 1 + word.len()).sum::<usize>()
+}
+
+/// The win of a hand and its words at a table that knows the rest. The line that they stand for has a line's bytes at most.
 pub fn read_hand(house: House, hand: &str, words: &[&str], known: &Known) -> Result<Win, LineFault> {
     use LineFault::Coded;
     let is_plain = |word: &str| word.bytes().all(|byte| (0x20..=0x7e).contains(&byte));
-    if !is_plain(hand) || !words.iter().all(|word| is_plain(word)) {
+    let is_long = line_size(hand, words, known) > LONGEST;
+    if is_long || !is_plain(hand) || !words.iter().all(|word| is_plain(word)) {
         return Err(Coded(1));
     }
     if hand.contains('=') {

@@ -75,7 +75,7 @@ pub fn step_of(game: &Game, entry: &Entry) -> Result<Step, Fault> {
             let (after, penalty, end) = dead_hand(&game.rules, &game.state, *player);
             Step::DeadHand { player: *player, after, penalty, end }
         }
-        Entry::Penalty { player, points } => return Ok(Step::Penalty { player: *player, points: *points }),
+        Entry::Penalty { player, points } => Step::Penalty { player: *player, points: *points },
         Entry::Stands(state) => {
             if !state.adds_up(&game.rules) || !game.rules.has_round(state.round) {
                 return Err(11.into());
@@ -87,7 +87,25 @@ pub fn step_of(game: &Game, entry: &Entry) -> Result<Step, Fault> {
         }
         Entry::End => Step::End,
     };
-    if game.is_over { Err(13.into()) } else { Ok(step) }
+    if !fits(game, &step) {
+        return Err(12.into());
+    }
+    if game.is_over && !matches!(step, Step::Penalty { .. }) { Err(13.into()) } else { Ok(step) }
+}
+
+/// So many points a player has at most, up or down, and so many penalties.
+const MOST_POINTS: i64 = 1_000_000_000;
+
+/// Whether no player has more points or penalties after a step than a ledger keeps.
+fn fits(game: &Game, step: &Step) -> bool {
+    let penalty = |player: usize, points: i64| game.penalties[player] + points <= MOST_POINTS;
+    let are_few = |state: &State| state.points.iter().all(|points| points.abs() <= MOST_POINTS);
+    match step {
+        Step::Deal { after, .. } | Step::Stands(after) => are_few(after),
+        Step::DeadHand { player, after, penalty: points, .. } => are_few(after) && penalty(*player, *points),
+        Step::Penalty { player, points } => penalty(*player, *points),
+        Step::End => true,
+    }
 }
 
 fn player(game: &Game, name: &str) -> Result<usize, Fault> {

@@ -47,6 +47,9 @@ const LIMITS: [(&str, i64, i64); 5] =
 /// Words that no value is.
 const PARTS: [&str; 6] = ["from", "and", "liable", "ready", "nagashi", "riichi"];
 
+/// So many players win on one discard at most.
+const MOST_WINNERS: usize = 3;
+
 /// The words of a line that are left.
 struct Words<'a, 'b>(&'b [&'a str]);
 
@@ -120,7 +123,7 @@ impl<'a> Words<'a, '_> {
         self.want("from")?;
         let discarder = self.next()?;
         let mut winners = vec![self.winner(first)?];
-        while self.take("and") {
+        while winners.len() < MOST_WINNERS && self.take("and") {
             let name = self.next()?;
             winners.push(self.winner(name)?);
         }

@@ -1,5 +1,5 @@
 -- When a game is over.
-use Rattle.std.specs.Prelude.{ℕ, ◌+◌, Bool, true, false, not, ◌&&◌, ◌||◌, nat_lt, ℤ, pos, int_lt, int_le, Option, Some, None}
+use Rattle.std.specs.Prelude.{ℕ, ◌+◌, Bool, true, false, not, ◌&&◌, ◌||◌, nat_lt, ℤ, pos, int_lt, int_le, Option, Some, None, is_some}
 use Rattle.riichi_hand.specs.declared.win.Wind.{Wind}
 use Rattle.riichi_hand.specs.declared.win.Wind.TheVariants.{East, South, West, North}
 use Rattle.riichi_table.specs.Players.{of_player, is_same, of_some}
@@ -36,6 +36,10 @@ is_behind_last rules round = nat_lt (last_number rules.length) (round_number rou
 -- not even the one round more
 abbrev pub is_beyond : TableRules → Wind → Bool
 is_beyond rules round = nat_lt (last_number rules.length + 1) (round_number round)
+
+-- the rules have the rounds up to the last, and one more only where there may be one
+abbrev pub has_round : TableRules → Wind → Bool
+has_round rules round = not (is_beyond rules round) && (not (is_behind_last rules round) || is_some rules.extra)
 
 -- ---- points
 

@@ -1,5 +1,5 @@
 -- Why an outcome is refused, and what comes after one that is not.
-use Rattle.std.specs.Prelude.{ℕ, ◌+◌, ◌*◌, Bool, false, not, ◌&&◌, ◌||◌, nat_lt, nat_le, ℤ, pos, negsuc, ◌+ℤ◌, int_lt, int_le, [], ◌∷◌, Option, Some, None, is_some, Result, Ok, Err}
+use Rattle.std.specs.Prelude.{ℕ, ◌+◌, ◌*◌, Bool, false, not, ◌&&◌, nat_lt, nat_le, ℤ, pos, negsuc, int_lt, int_le, [], ◌∷◌, Option, Some, None, Result, Ok, Err}
 use Rattle.std.specs.Ordering.{int_eq}
 use Rattle.riichi_table.specs.Players.{of_player, by_players, with_player, of_some}
 use Rattle.riichi_table.specs.RulesFaults.{cost_points}
@@ -15,7 +15,7 @@ use Rattle.riichi_table.specs.declared.fault.OutcomeFault.TheVariants as fault
 use Rattle.riichi_game.specs.Outcomes.{riichi_in, is_penalty}
 use Rattle.riichi_game.specs.Line.{fault_if, first_fault, line_fault}
 use Rattle.riichi_game.specs.Following.{points_after, counters_after, sticks_after, state_after}
-use Rattle.riichi_game.specs.Ends.{is_behind_last, is_beyond, over_after}
+use Rattle.riichi_game.specs.Ends.{has_round, over_after}
 use Rattle.riichi_game.specs.declared.game.Progress.{Progress}
 
 -- ---- what the table shows
@@ -41,9 +41,8 @@ abbrev pub has_wrong_total : TableRules → Outcome → Bool
 has_wrong_total rules (Stands written) = not (int_eq (all_points written) (pos (4 * rules.start)))
 has_wrong_total rules other = false
 
--- the rules have a round behind the last only where there may be one more, and no other
 abbrev pub has_wrong_round : TableRules → Outcome → Bool
-has_wrong_round rules (Stands written) = is_beyond rules written.round || (is_behind_last rules written.round && not (is_some rules.extra))
+has_wrong_round rules (Stands written) = not (has_round rules written.round)
 has_wrong_round rules other = false
 
 unfoldable pub table_fault : GameState → TableRules → Outcome → Option OutcomeFault

@@ -2,7 +2,7 @@
 ghost use Rattle.std.specs.Prelude.{◌≡◌};
 ghost use Rattle.riichi_game.specs.Faults as spec;
 
-use crate::ends::{is_behind_last, is_beyond};
+use crate::ends::has_round;
 use crate::won::riichi_in;
 use riichi_table::{ByPlayer, GameState, Outcome, OutcomeFault, TableRules};
 
@@ -90,10 +90,7 @@ fn has_wrong_round(rules: &TableRules, outcome: &Outcome) -> bool
     ensures { result ≡ spec.has_wrong_round rules.now outcome.now }
 {
     match outcome {
-        Outcome::Stands { state } => {
-            is_beyond(rules, state.round)
-                || (is_behind_last(rules, state.round) && rules.extra.is_none())
-        }
+        Outcome::Stands { state } => !has_round(rules, state.round),
         _ => false,
     }
 }

@@ -128,17 +128,24 @@ fn is_before_last(rules: &TableRules, round: Wind) -> bool
 }
 
 /// Whether it is the one round more.
-pub(crate) fn is_behind_last(rules: &TableRules, round: Wind) -> bool
+fn is_behind_last(rules: &TableRules, round: Wind) -> bool
     ensures { result ≡ spec.is_behind_last rules.now round }
 {
     last_number(rules.length) < round_number(round)
 }
 
 /// Whether a round stands behind the last, and is not the next one.
-pub(crate) fn is_beyond(rules: &TableRules, round: Wind) -> bool
+fn is_beyond(rules: &TableRules, round: Wind) -> bool
     ensures { result ≡ spec.is_beyond rules.now round }
 {
     last_number(rules.length) + 1 < round_number(round)
+}
+
+/// Whether the rules have a round: those up to the last, and one more only where there may be one.
+pub fn has_round(rules: &TableRules, round: Wind) -> bool
+    ensures { result ≡ spec.has_round rules.now round }
+{
+    !is_beyond(rules, round) && (!is_behind_last(rules, round) || rules.extra.is_some())
 }
 
 #[tactic(auto, unfolding(crate::specs::Ends::is_bust))]

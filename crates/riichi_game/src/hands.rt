@@ -49,7 +49,7 @@ pub fn worth_of_win(win: &WinRecord) -> Result<Worth, NoWorth>
 }
 
 /// Of a score: the limits of a yakuman, else the base points. Both are far below the bounds of their types.
-fn worth_of_score(score: &Score) -> Worth
+pub fn worth_of_score(score: &Score) -> Worth
     ensures { result ≡ spec.worth_of_score score.now }
 {
     if score.yaku.is_yakuman() {

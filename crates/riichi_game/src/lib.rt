@@ -22,7 +22,8 @@ mod refusals;
 mod values;
 mod won;
 
+pub use ends::has_round;
 pub use game::{Progress, after_all};
-pub use hands::{NoWorth, win_record, worth_of_win};
+pub use hands::{NoWorth, win_record, worth_of_score, worth_of_win};
 pub use refusals::fault;
 pub use values::{LimitHand, counted_worth, limit_worth, most_limits, occurs};

@@ -1,3 +1,5 @@
 pub mod DigitLemmas
 pub mod TextLemmas
 pub mod ChangeLemmas
+pub mod ListLemmas
+pub mod LongLines

@@ -6,3 +6,14 @@ pub mod TableWords
 pub mod GameLines
 pub mod Answers
 pub mod FinalTexts
+pub mod Forms
+pub mod Listed
+pub mod HandLines
+pub mod FaultTexts
+pub mod Written
+pub mod Wins
+pub mod Won
+pub mod PlainLines
+pub mod Rons
+pub mod StandsLines
+pub mod Entries

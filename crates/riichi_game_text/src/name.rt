@@ -196,7 +196,7 @@ fn read_name(word: &[u8]) -> Option<Name>
 
 /// The text of some bytes, where they are UTF-8.
 #[tactic(auto, using(crate::proofs::TextLemmas::utf8_tests))]
-fn text_of(word: &[u8]) -> Option<&str>
+pub(crate) fn text_of(word: &[u8]) -> Option<&str>
     ensures { MatchOption result (is_utf8 word.now ≡ false)
         (λ text. (is_utf8 word.now ≡ true) × (text.now ≡ word.now)) }
 {

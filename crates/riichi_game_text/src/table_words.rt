@@ -128,7 +128,7 @@ fn first_value<'a>(text: &'a [u8], key: &[u8]) -> Option<&'a [u8]>
     None
 }
 
-fn key_of(word: &[u8]) -> &[u8]
+pub(crate) fn key_of(word: &[u8]) -> &[u8]
     ensures { result.now ≡ spec.key_of word.now }
 {
     match split_at_mark(word, b'=') {
@@ -137,7 +137,7 @@ fn key_of(word: &[u8]) -> &[u8]
     }
 }
 
-fn value_of(word: &[u8]) -> &[u8]
+pub(crate) fn value_of(word: &[u8]) -> &[u8]
     ensures { result.now ≡ spec.value_of word.now }
 {
     match split_at_mark(word, b'=') {

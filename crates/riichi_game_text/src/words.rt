@@ -28,7 +28,7 @@ pub(crate) fn begins_note(word: &[u8]) -> bool
     }
 }
 
-fn has_equals(word: &[u8]) -> bool
+pub(crate) fn has_equals(word: &[u8]) -> bool
     ensures { result ≡ spec.has_equals word.now }
 {
     split_at_mark(word, b'=').is_some()

@@ -7,3 +7,9 @@
 mod answers;
 #[cfg(test)]
 mod game_lines;
+#[cfg(test)]
+mod pages;
+#[cfg(test)]
+mod plays;
+#[cfg(test)]
+mod refused;
