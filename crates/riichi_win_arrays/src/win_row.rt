@@ -56,7 +56,7 @@ impl WinRow {
             concealed: counts_in(&self.concealed)?,
             melds: melds_in(&self.melds)?,
             winning: Kind::new(self.winning)?,
-            by: by_in(u32::from(self.by))?,
+            by: self.won_by()?,
             seat: wind_in(self.seat)?,
             round: wind_in(self.round)?,
             riichi: self.riichi,
@@ -67,6 +67,13 @@ impl WinRow {
             sticks: self.sticks,
             reds: reds_in(&self.reds)?,
         })
+    }
+
+    /// How it was won, none where the byte says nothing.
+    fn won_by(&self) -> Option<By>
+        ensures { result ≡ spec.by_in self.now.by }
+    {
+        by_in(u32::from(self.by))
     }
 
     fn flags(&self) -> Flags
