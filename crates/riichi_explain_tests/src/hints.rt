@@ -79,30 +79,32 @@ fn words(rt: HostRuntime) -> Result<(), Fail> {
 /// A win by ron before the own first draw is one where the rules have the blessing of man, of another seat than East.
 #[test]
 fn rules_of_the_line(rt: HostRuntime) -> Result<(), Fail> {
+    let south = "win 234m567m345p67s99s on=5s by=Ron seat=S round=E flags=first";
+    let east = "win 234m567m345p67s99s on=5s by=Ron seat=E round=E flags=first";
     let blessed = Rules::One.with(Switch::BlessingOfMan, true);
-    for (rules, seat, by) in [
-        (blessed, "S", "ron"),
-        (blessed, "E", "tsumo"),
-        (Rules::One, "S", "tsumo"),
+    for (rules, line, wanted) in [
+        (
+            blessed,
+            south,
+            "win 234m567m345p67s99s on=5s by=ron seat=S round=E flags=first",
+        ),
+        (
+            blessed,
+            east,
+            "win 234m567m345p67s99s on=5s by=tsumo seat=E round=E flags=first",
+        ),
+        (
+            Rules::One,
+            south,
+            "win 234m567m345p67s99s on=5s by=tsumo seat=S round=E flags=first",
+        ),
     ] {
-        let line = written("Ron", seat);
         let Some(hint) = hint_of(rules, line.as_bytes()) else {
             return Err("a line without a hint")?;
         };
-        same(&rt, hint.as_slice(), written(by, seat).as_bytes());
+        same(&rt, hint.as_slice(), wanted.as_bytes());
     }
     Ok(())
-}
-
-/// A win at the first turn.
-fn written(by: &str, seat: &str) -> ArrayString<128> {
-    let mut line = ArrayString::new();
-    line.push_str("win 234m567m345p67s99s on=5s by=");
-    line.push_str(by);
-    line.push_str(" seat=");
-    line.push_str(seat);
-    line.push_str(" round=E flags=first");
-    line
 }
 
 /// No reading of these lines is answered.
