@@ -3,14 +3,14 @@ use Rattle.std.specs.Prelude.{IfNone, is_some}
 use Rattle.std.proofs.lemmas.Bool.{cases_lt}
 use Rattle.std.proofs.lemmas.List.{get_or_default, get_or-set_other}
 use Rattle.std.proofs.lemmas.List.Elements.{All-set}
-use Rattle.desk_lines.specs.declared.report.DeskReport.{DeskReport}
+use Rattle.desk_lines.specs.declared.tally.Tally.{Tally}
 use Rattle.desk_crew.specs.declared.share.Share.{Share}
 use Rattle.desk_crew.specs.Pieces.{HaveAnswers, IsWithout}
 use Rattle.desk_crew.proofs.round.take_piece.Goals as goal
 
-none_is : (P : Type 0) (taken : Option DeskReport) → is_some taken ≡ false → IfNone taken P → P
+none_is : (P : Type 0) (taken : Option Tally) → is_some taken ≡ false → IfNone taken P → P
 none_is P None is given = given
-none_is P (Some report) is given = cc
+none_is P (Some tally) is given = cc
 
 -- one share more had nothing
 one_more : (number place : ℕ) (given now : List Share) (share : Share) → place < length now → ((d : Share) → get_or now place d ≡ get_or given place d) → IsWithout number (get_or now place share)
