@@ -5,7 +5,7 @@ mod facts;
 
 use super::*;
 use desk_io::{BytesIn, BytesOut};
-use desk_lines::{DeskFault, DeskReport, Objects, Plain, SuitMemo, TextReport, desk_text_by};
+use desk_lines::{DeskFault, Objects, Plain, SuitMemo, TextReport, desk_text_by};
 use facts::{holds, holds_in, same, same_in};
 use riichi_hand::Rules;
 use std::alloc::{AllocError, Global};
@@ -136,6 +136,14 @@ fn failures(rt: HostRuntime) -> Result<(), Fail> {
     Ok(())
 }
 
+/// Whether one line is answered, and one refused.
+fn is_one_of_each(told: &Result<TextReport, DeskFault>) -> bool {
+    match told {
+        Ok(report) => report.counts.answered == 1 && report.counts.refused == 1,
+        Err(_) => false,
+    }
+}
+
 /// As JSON.
 #[test]
 fn objects(rt: HostRuntime) -> Result<(), Fail> {
@@ -153,11 +161,7 @@ fn objects(rt: HostRuntime) -> Result<(), Fail> {
             &mut reader,
             &mut writer,
         );
-        let both = DeskReport {
-            answered: 1,
-            refused: 1,
-        };
-        holds_in(&rt, &of_objects, report.map(|it| it.counts) == Ok(both));
+        holds_in(&rt, &of_objects, is_one_of_each(&report));
         holds_in(&rt, &of_objects, writer.bytes().starts_with(b"{"));
     }
     Ok(())

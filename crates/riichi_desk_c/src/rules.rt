@@ -1,7 +1,5 @@
 //! The rules that a caller's number names, and the number of those that a text names.
 ghost use Rattle.std.specs.Prelude.{◌≡◌, ◌+◌};
-ghost use Rattle.riichi_hand.specs.Rules.{Rules};
-ghost use Rattle.riichi_hand.specs.RulesText.{NamesRules};
 ghost use Rattle.riichi_desk_c.specs.RulesRead.{IsReadAs};
 ghost use Rattle.riichi_desk_c.specs.Replies as spec;
 
@@ -25,15 +23,21 @@ pub(crate) fn rules_numbered(number: u32) -> Option<Rules>
     }
 }
 
+/// The number of rules as those of a house.
+fn house_number(rules: Rules) -> u32
+    ensures { result ≡ 65536 + rules }
+{
+    HOUSE + u32::from(rules.bits())
+}
+
 /// The number of the rules that a text such as `2` or `1+red-fives-ura` names, for the calls that take one. It is 0 where the text
 /// names none, and `wrong` is set to the place of the first wrong word; else that stays as it is.
 #[unsafe(no_mangle)]
 pub extern "C" fn riichi_rules(text: &[u8], wrong: &mut usize) -> u32
-    ensures read { IsReadAs text.now wrong.old wrong.new result }
-    ensures only { (rules : Rules) → NamesRules text.now rules → result ≡ 65536 + rules }
+    ensures { IsReadAs text.now wrong.old wrong.new result }
 {
     match read_rules(text) {
-        Ok(rules) => HOUSE + u32::from(rules.bits()),
+        Ok(rules) => house_number(rules),
         Err(fault) => {
             *wrong = fault.place;
             0
