@@ -6,13 +6,11 @@ use Rattle.std.proofs.lemmas.List.Elements.{filter_map-append}
 use Rattle.std.specs.Prelude.{is_some, unwrap_or}
 use Rattle.riichi_hand.specs.Rules.{Rules}
 use Rattle.desk_lines.specs.Profile.{profile_of, rules_of, record_lines, rules_by, record_rules}
-use Rattle.desk_lines.specs.declared.line_kind.LineKind.{LineKind}
 use Rattle.desk_lines.specs.declared.line_kind.LineKind.TheVariants.{Refused}
-use Rattle.desk_lines.specs.declared.report.DeskReport.{DeskReport}
 use Rattle.desk_lines.specs.LineAnswer.{IsBy, line_kind, outcome_kind}
 use Rattle.desk_lines.specs.LineAnswers.{answers_by, report_on}
 use Rattle.desk_lines.specs.Telling.{text_of, answers_in, report_of, report_with, IsToldAs}
-use Rattle.desk_lines.specs.Records.{rules_after, AnswerKind, IsToldUnder, IsToldBy, kind_under, AreTold, AnswerRecords, AreRead}
+use Rattle.desk_lines.specs.Records.{rules_after, AnswerKind, IsToldUnder, IsToldBy, kind_under, AreTold, AnswerRecords}
 use Rattle.desk_lines.specs.declared.records.Records.{Records}
 use Rattle.desk_lines.specs.Streams.{StopsWriting}
 use Rattle.desk_io.specs.declared.sink.Sink.{Ghosts as OfSink}

@@ -1,12 +1,9 @@
 -- An object is a brace and its members.
-use Rattle.std.proofs.Common.{◌≡◌, ℕ, List, [], ◌∷◌, ◌++◌, true, drop, Option, Some, None, Result, Ok, refl, sym, ap, ◌∙◌}
+use Rattle.std.proofs.Common.{◌≡◌, ℕ, List, ◌++◌, drop, refl, sym, ap, ◌∙◌}
 use Rattle.std.specs.Prelude.{codes}
-use Rattle.std.proofs.lemmas.List.{append-nil}
 use Rattle.riichi_hand.specs.declared.fault.LineFault.{LineFault}
 use Rattle.riichi_hand.specs.declared.fault.LineFault.TheVariants.{Line, Notation}
-use Rattle.riichi_hand.specs.declared.job.Job.{Job}
 use Rattle.riichi_hand.specs.Rules.{Rules}
-use Rattle.riichi_hand.specs.Lines.{outcome_of}
 use Rattle.riichi_score.specs.declared.answer.WinAnswer.{WinAnswer}
 use Rattle.riichi_score.specs.declared.answer.WinAnswer.TheVariants.{Won, NoYaku, NoWin}
 use Rattle.desk_core.specs.declared.answer.Answer.{Answer}
@@ -15,13 +12,8 @@ use Rattle.desk_json.specs.Parts.{worth_json, score_json, worth_members_json, op
 use Rattle.desk_json.specs.Text.{answer_json, refusal_json}
 use Rattle.desk_json.proofs.Pieces.{win_written, waits_written, shape_written}
 use Rattle.desk_json.proofs.Refusals.{refusal_written}
-use Rattle.desk_lines.specs.JsonLine.{json_of, outcome_json, IsMembers}
-use Rattle.desk_lines.specs.declared.line_kind.LineKind.{LineKind}
-use Rattle.desk_lines.specs.declared.line_kind.LineKind.TheVariants.{NoRecord}
-use Rattle.desk_lines.specs.Records.{Puts}
-use Rattle.desk_lines.specs.Telling.{has_answer}
 
-brace_of : (text parts : List ℕ) → text ≡ parts → codes "{" ++ drop 1 parts ≡ parts → codes "{" ++ drop 1 text ≡ text
+pub brace_of : (text parts : List ℕ) → text ≡ parts → codes "{" ++ drop 1 parts ≡ parts → codes "{" ++ drop 1 text ≡ text
 brace_of text parts is brace = ap (λ (all : List ℕ). codes "{" ++ drop 1 all) is ∙ brace ∙ sym is
 
 win_brace : (rules : Rules) (win : WinAnswer) → codes "{" ++ drop 1 (win_json rules win) ≡ win_json rules win
@@ -43,26 +35,3 @@ parts_brace line (Notation name fault) = refl
 
 pub fault_brace : (line : List ℕ) (fault : LineFault) → codes "{" ++ drop 1 (refusal_json line fault) ≡ refusal_json line fault
 fault_brace line fault = brace_of (refusal_json line fault) (refusal_parts line fault) (refusal_written line fault) (parts_brace line fault)
-
--- the object of an outcome was made, and its members put
-pub members_puts : (rules : Rules) (line before same after made object : List ℕ) (outcome : Result (Option Job) LineFault) (kind : LineKind) → outcome_of rules line ≡ outcome → outcome_json rules line outcome ≡ Some object
-    → codes "{" ++ drop 1 object ≡ object → has_answer kind ≡ true → same ≡ before → made ≡ object → after ≡ same ++ (drop 1 made ++ 10 ∷ [])
-    → Puts (IsMembers rules line) kind before after
-unfolding json_of
-members_puts rules line before same after made object outcome kind is said brace has kept made_is put = record {
-  told = Some (drop 1 object);
-  may_be_told = ap Some brace ∙ sym said ∙ ap (outcome_json rules line) (sym is);
-  kind_is = sym has;
-  put = put ∙ ap (λ (text : List ℕ). same ++ (drop 1 text ++ 10 ∷ [])) made_is ∙ ap (λ (front : List ℕ). front ++ (drop 1 object ++ 10 ∷ [])) kept;
-}
-
-pub members_none : (rules : Rules) (line before : List ℕ) → outcome_of rules line ≡ Ok None → Puts (IsMembers rules line) NoRecord before before
-unfolding json_of
-members_none rules line before is = record {
-  told = None;
-  may_be_told = ap (outcome_json rules line) (sym is);
-  kind_is = refl;
-  put = sym (append-nil before);
-}
-
-pub ruleset respond_facts = (answer_brace, fault_brace, members_puts, members_none)

@@ -1,5 +1,5 @@
 -- Lines that look like a profile line, among others.
-use Rattle.std.proofs.Common.{◌≡◌, ◌≢◌, ℕ, ◌+◌, inl, inr, List, [], ◌∷◌, ◌++◌, Bool, true, false, cond, Option, Some, None, map, min, take, length, refl, sym, subst, ◌∙◌, ap, arith, length-append}
+use Rattle.std.proofs.Common.{◌≡◌, ℕ, ◌+◌, inl, inr, List, [], ◌∷◌, ◌++◌, Bool, true, false, cond, Option, Some, None, map, min, take, length, refl, sym, subst, ◌∙◌, ap, arith, length-append}
 use Rattle.std.specs.Prelude.{is_some, unwrap_or, option_map, codes, IsTrue, ◌↔◌}
 use Rattle.std.specs.List.{position_from}
 use Rattle.std.specs.Str.{bytes_eq, IsTrimAsciiStart}
@@ -13,7 +13,6 @@ use Rattle.desk_lines.specs.declared.line_kind.LineKind.{LineKind}
 use Rattle.desk_lines.specs.declared.records.Records.{Records}
 use Rattle.desk_lines.specs.declared.report.DeskReport.{DeskReport}
 use Rattle.desk_lines.specs.declared.report.TextReport.{TextReport}
-use Rattle.desk_lines.specs.declared.tally.Tally.{Tally}
 use Rattle.desk_lines.specs.LineAnswer.{line_kind}
 use Rattle.desk_lines.specs.LineAnswers.{report_on}
 use Rattle.desk_lines.specs.Profile.{profile_of, first_number, rules_of, record_lines, rules_by, record_rules}

@@ -1,7 +1,6 @@
 //! The answer to one line.
 ghost use Rattle.std.specs.Prelude.{◌≡◌, ◌+◌, ◌≤◌, ◌∷◌, ◌++◌, [], length};
-ghost use Rattle.desk_core.specs.AnswerText.{answer_text};
-ghost use Rattle.desk_core.specs.Value.{value_of};
+ghost use Rattle.riichi_hand.specs.FaultTexts as spec_fault;
 ghost use Rattle.riichi_shape.specs.Answer.{shape_answer_of};
 ghost use Rattle.riichi_shape.specs.Text as spec_shape;
 ghost use Rattle.riichi_split.specs.Waits as spec_waits;
@@ -11,7 +10,7 @@ use super::line_kind::LineKind;
 use super::numbered::Numbers;
 use super::outbox::{MOST_TEXT_LINE, Outbox};
 use super::responder::Responder;
-use riichi_hand::{Job, Rules, ShapeRecord, fault_text, read_line};
+use riichi_hand::{Job, LineFault, Refusal, Rules, ShapeRecord, fault_text, read_line};
 use riichi_score::{best, push_win};
 use riichi_shape::{RowSource, push_shape, shape_with};
 use riichi_split::{push_waits, waits};
@@ -23,12 +22,35 @@ pub struct Plain;
 impl Responder for Plain {
     ghost use Rattle.desk_lines.specs.LineAnswer.{answer_of, IsBy};
     ghost use Rattle.desk_lines.specs.LongLines.{answers_alike};
+    ghost use Rattle.desk_lines.specs.Outcomes.{IsPlainJob, IsPlainRefusal, plain_by_outcome};
 
     ghost may_tell = { IsBy answer_of };
 
+    ghost tells_job = { IsPlainJob };
+
+    ghost tells_refusal = { IsPlainRefusal };
+
+    ghost by_outcome = { plain_by_outcome };
+
     ghost alike = { answers_alike };
 
-    #[tactic(auto, unfolding(crate::specs::LineAnswer::answer_of))]
+    fn put_job<S: RowSource>(rules: Rules, job: &Job, outbox: &mut Outbox, source: &mut S) {
+        match job {
+            Job::Win(win) => {
+                outbox.text.clear();
+                push_win(&mut outbox.text, &best(win));
+                outbox.put_text();
+            }
+            Job::Waits(hand) => put_waits(waits(hand), outbox),
+            Job::Shape(tiles) => put_shape(tiles, outbox, source),
+        }
+    }
+
+    fn put_refusal(rules: Rules, line: &[u8], refusal: &Refusal<'_>, outbox: &mut Outbox) {
+        put_fault(&refusal.fault, outbox)
+    }
+
+    /// The same as any kind's, and without the place of a refusal, of which no word is told.
     fn respond<S: RowSource>(
         rules: Rules,
         line: &[u8],
@@ -38,11 +60,11 @@ impl Responder for Plain {
         match read_line(rules, line) {
             Ok(None) => LineKind::NoRecord,
             Ok(Some(job)) => {
-                put_job(&job, outbox, source);
+                Plain::put_job(rules, &job, outbox, source);
                 LineKind::Answered
             }
             Err(fault) => {
-                outbox.put_line(fault_text(&fault).as_str().as_bytes());
+                put_fault(&fault, outbox);
                 LineKind::Refused
             }
         }
@@ -59,22 +81,13 @@ impl Numbers for Plain {
     }
 }
 
-/// Puts the answer to a job into the outbox.
-#[tactic(auto, using(crate::proofs::JobTexts::job_texts))]
-fn put_job<S: RowSource>(job: &Job, outbox: &mut Outbox, source: &mut S)
+pub(crate) fn put_fault(fault: &LineFault, outbox: &mut Outbox)
     requires { HasRoom outbox.old }
-    ensures { outbox.new.bytes.items
-        ≡ outbox.old.bytes.items ++ (answer_text (value_of job.now) ++ 10 ∷ []) }
+    ensures room { length outbox.new.bytes.items ≤ length outbox.old.bytes.items + MOST_TEXT_LINE }
+    ensures told { outbox.new.bytes.items
+        ≡ outbox.old.bytes.items ++ (spec_fault.fault_text fault.now ++ 10 ∷ []) }
 {
-    match job {
-        Job::Win(win) => {
-            outbox.text.clear();
-            push_win(&mut outbox.text, &best(win));
-            outbox.put_text();
-        }
-        Job::Waits(hand) => put_waits(waits(hand), outbox),
-        Job::Shape(tiles) => put_shape(tiles, outbox, source),
-    }
+    outbox.put_line(fault_text(fault).as_str().as_bytes());
 }
 
 pub(crate) fn put_waits(kinds: KindSet, outbox: &mut Outbox)

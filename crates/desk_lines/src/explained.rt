@@ -5,9 +5,7 @@ ghost use Rattle.desk_core.specs.Value.{value_of};
 ghost use Rattle.riichi_explain.specs.Explanation.{IsJobText, IsWinText, IsBestText, AreOthers, IsShapeText};
 ghost use Rattle.riichi_explain.specs.Others.{others_text};
 ghost use Rattle.riichi_explain.specs.Win.{explained_reading};
-ghost use Rattle.riichi_hand.specs.FaultTexts.{fault_text};
 ghost use Rattle.riichi_hand.specs.Refusals.{IsRefusalOf};
-ghost use Rattle.riichi_hints.specs.Hint.{IsRefusalText};
 ghost use Rattle.riichi_score.specs.Best.{best_of};
 ghost use Rattle.riichi_score.specs.Fu.{HasFourSets};
 ghost use Rattle.riichi_score.specs.Text as spec_win;
@@ -15,13 +13,11 @@ ghost use Rattle.riichi_shape.specs.Answer.{shape_answer_of};
 ghost use Rattle.riichi_shape.specs.Text as spec_shape;
 ghost use Rattle.riichi_split.specs.Waits.{waits_of, waits_text};
 ghost use Rattle.riichi_explain.specs.Waits.{kind_waits, waits_line};
-ghost use Rattle.desk_lines.specs.Explained.{IsExplained};
-ghost use Rattle.desk_lines.specs.LineAnswer.{line_kind};
+ghost use Rattle.desk_lines.specs.Explained.{IsWithWhy, IsRefusalWithWhy};
 ghost use Rattle.desk_lines.specs.Outbox.{HasRoom};
-ghost use Rattle.desk_lines.specs.Records.{Puts};
+ghost use Rattle.desk_lines.specs.Outcomes.{PutsLine};
 
-use super::answering::{put_shape, put_waits};
-use super::line_kind::LineKind;
+use super::answering::{put_fault, put_shape, put_waits};
 use super::numbered::Numbers;
 use super::outbox::{MOST_OTHERS, MOST_TEXT_LINE, Outbox, ROOM};
 use super::responder::Responder;
@@ -29,9 +25,7 @@ use riichi_explain::{
     REASONS_ROOM, RankedReading, Shown, explain_shape, explain_waits, explain_win,
     push_other_reading, push_shanten_line, push_waits_line, push_win_lines, ranked_readings,
 };
-use riichi_hand::{
-    HandRecord, Job, Refusal, Rules, ShapeRecord, WinRecord, fault_text, read_placed,
-};
+use riichi_hand::{HandRecord, Job, Refusal, Rules, ShapeRecord, WinRecord};
 use riichi_hints::push_refusal;
 use riichi_score::push_win;
 use riichi_shape::RowSource;
@@ -45,39 +39,49 @@ pub struct EveryReading;
 
 impl Responder for Explained {
     ghost use Rattle.riichi_explain.specs.declared.explaining.Shown.TheVariants.{BestReading};
-    ghost use Rattle.desk_lines.specs.Explained.{IsExplained};
+    ghost use Rattle.desk_lines.specs.Explained.{IsExplained, IsJobWithWhy, IsRefusalWithWhy, explained_by_outcome};
     ghost use Rattle.desk_lines.specs.LongLines.{explanations_alike};
 
     ghost may_tell = { IsExplained BestReading };
 
+    ghost tells_job = { IsJobWithWhy BestReading };
+
+    ghost tells_refusal = { IsRefusalWithWhy };
+
+    ghost by_outcome = { explained_by_outcome BestReading };
+
     ghost alike = { explanations_alike BestReading };
 
-    fn respond<S: RowSource>(
-        rules: Rules,
-        line: &[u8],
-        outbox: &mut Outbox,
-        source: &mut S,
-    ) -> LineKind {
-        put_explained(Shown::BestReading, rules, line, outbox, source)
+    fn put_job<S: RowSource>(rules: Rules, job: &Job, outbox: &mut Outbox, source: &mut S) {
+        put_explained(Shown::BestReading, job, outbox, source)
+    }
+
+    fn put_refusal(rules: Rules, line: &[u8], refusal: &Refusal<'_>, outbox: &mut Outbox) {
+        put_refused(rules, line, refusal, outbox)
     }
 }
 
 impl Responder for EveryReading {
     ghost use Rattle.riichi_explain.specs.declared.explaining.Shown.TheVariants as shown;
-    ghost use Rattle.desk_lines.specs.Explained.{IsExplained};
+    ghost use Rattle.desk_lines.specs.Explained.{IsExplained, IsJobWithWhy, IsRefusalWithWhy, explained_by_outcome};
     ghost use Rattle.desk_lines.specs.LongLines.{explanations_alike};
 
     ghost may_tell = { IsExplained shown.EveryReading };
 
+    ghost tells_job = { IsJobWithWhy shown.EveryReading };
+
+    ghost tells_refusal = { IsRefusalWithWhy };
+
+    ghost by_outcome = { explained_by_outcome shown.EveryReading };
+
     ghost alike = { explanations_alike shown.EveryReading };
 
-    fn respond<S: RowSource>(
-        rules: Rules,
-        line: &[u8],
-        outbox: &mut Outbox,
-        source: &mut S,
-    ) -> LineKind {
-        put_explained(Shown::EveryReading, rules, line, outbox, source)
+    fn put_job<S: RowSource>(rules: Rules, job: &Job, outbox: &mut Outbox, source: &mut S) {
+        put_explained(Shown::EveryReading, job, outbox, source)
+    }
+
+    fn put_refusal(rules: Rules, line: &[u8], refusal: &Refusal<'_>, outbox: &mut Outbox) {
+        put_refused(rules, line, refusal, outbox)
     }
 }
 
@@ -88,33 +92,6 @@ impl Numbers for EveryReading {
 
     fn put_number(number: u64, outbox: &mut Outbox) {
         outbox.put_number("", number, ":")
-    }
-}
-
-/// Puts the answer to a line into the outbox, and why it is so.
-#[tactic(auto, using(crate::proofs::ExplainedPuts::puts_none, crate::proofs::ExplainedPuts::puts_said))]
-fn put_explained<S: RowSource>(
-    shown: Shown,
-    rules: Rules,
-    line: &[u8],
-    outbox: &mut Outbox,
-    source: &mut S,
-) -> LineKind
-    requires { HasRoom outbox.old }
-    ensures kind { result ≡ line_kind rules line.now }
-    ensures puts { Puts (IsExplained shown rules line.now) result
-        outbox.old.bytes.items outbox.new.bytes.items }
-{
-    match read_placed(rules, line) {
-        Ok(None) => LineKind::NoRecord,
-        Ok(Some(job)) => {
-            put_job(shown, &job, outbox, source);
-            LineKind::Answered
-        }
-        Err(refusal) => {
-            put_refusal(rules, line, &refusal, outbox);
-            LineKind::Refused
-        }
     }
 }
 
@@ -130,10 +107,10 @@ impl Numbers for Explained {
 
 /// Puts the answer to a job into the outbox, and why it is so.
 #[tactic(auto, using(crate::proofs::JobTexts::job_texts))]
-fn put_job<S: RowSource>(shown: Shown, job: &Job, outbox: &mut Outbox, source: &mut S)
+fn put_explained<S: RowSource>(shown: Shown, job: &Job, outbox: &mut Outbox, source: &mut S)
     requires { HasRoom outbox.old }
-    ensures { (why : List ℕ) × IsJobText shown job.now why
-        × (outbox.new.bytes.items ≡ outbox.old.bytes.items ++ ((answer_text (value_of job.now) ++ 10 ∷ []) ++ why)) }
+    ensures { PutsLine (IsWithWhy (IsJobText shown job.now) (answer_text (value_of job.now)))
+        outbox.old.bytes.items outbox.new.bytes.items }
 {
     match job {
         Job::Win(win) => put_win(shown, win, outbox, source),
@@ -223,14 +200,13 @@ fn put_forms<S: RowSource>(tiles: &ShapeRecord, outbox: &mut Outbox, source: &mu
     outbox.put_why();
 }
 
-fn put_refusal(rules: Rules, line: &[u8], refusal: &Refusal<'_>, outbox: &mut Outbox)
+fn put_refused(rules: Rules, line: &[u8], refusal: &Refusal<'_>, outbox: &mut Outbox)
     requires room { HasRoom outbox.old }
     requires refusal { IsRefusalOf line.now refusal.now }
-    ensures { (why : List ℕ) × IsRefusalText rules line.now refusal.now.fault why
-        × (outbox.new.bytes.items ≡ outbox.old.bytes.items
-        ++ ((fault_text refusal.now.fault ++ 10 ∷ []) ++ why)) }
+    ensures { PutsLine (IsRefusalWithWhy rules line.now refusal.now.fault)
+        outbox.old.bytes.items outbox.new.bytes.items }
 {
-    outbox.put_line(fault_text(&refusal.fault).as_str().as_bytes());
+    put_fault(&refusal.fault, outbox);
     outbox.text.clear();
     push_refusal(&mut outbox.text, rules, line, refusal);
     outbox.put_lines();

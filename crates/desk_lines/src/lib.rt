@@ -11,7 +11,8 @@
 //! `waits_answer` answers one hand, as the command `waits` prints it.
 //! [`laws`] says how the kinds of answers agree.
 //!
-//! Inside, `answer_lines` reads a stream to its end and has its lines answered by a `Teller` that it is lent. `Told` cuts
+//! Inside, [`answer_lines`] reads a stream to its end and has its lines answered by a [`Teller`] that it is lent,
+//! which may be one of another crate. `Told` cuts
 //! the text at hand into lines, has them answered one by one and counts the answers; its `Outbox` keeps these until they
 //! are written in one piece. Of a line that has not ended the front is kept in a `LineBuffer`. `Records` is the
 //! teller of record lines, under the profile that the first line may set; a `desk_script::Script` is that of a script.
@@ -23,7 +24,6 @@
 //! ```
 #![tactic(auto)]
 
-mod answer_lines;
 mod answering;
 mod cut;
 mod decided;
@@ -47,6 +47,7 @@ mod report;
 mod responder;
 mod scripts;
 mod slip;
+mod stream;
 mod tally;
 mod teller;
 mod text;
@@ -71,6 +72,8 @@ pub use report::{DeskReport, Slip, TextReport};
 pub use responder::Responder;
 pub use riichi_hand::Rules;
 pub use riichi_shape::SuitMemo;
+pub use stream::answer_lines;
 pub use tally::Tally;
+pub use teller::Teller;
 pub use text::{desk_text, desk_text_by};
 pub use waits::{WaitsLine, waits_answer};

@@ -7,10 +7,10 @@ ghost use Rattle.desk_lines.specs.Slips.{text_report};
 ghost use Rattle.desk_lines.specs.Streams.{Gives, GivesAll, WritesAll, StopsWriting, AreWhole, FailsOrGoesOn, IsReadWithin};
 ghost use Rattle.desk_lines.specs.Telling.{text_by};
 
-use super::answer_lines::answer_lines;
 use super::fault::DeskFault;
 use super::numbered::{Numbered, Numbers};
 use super::report::TextReport;
+use super::stream::answer_lines;
 use desk_io::{Sink, Source};
 use riichi_hand::Rules;
 use riichi_shape::RowSource;

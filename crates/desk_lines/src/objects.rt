@@ -4,46 +4,39 @@ ghost use Rattle.desk_core.specs.Value.{value_of};
 ghost use Rattle.desk_json.specs.Text as spec;
 ghost use Rattle.riichi_hand.specs.Refusals.{IsRefusalOf};
 
-use super::line_kind::LineKind;
 use super::numbered::Numbers;
 use super::outbox::Outbox;
 use super::responder::Responder;
 use desk_core::judge_with;
 use desk_json::{push_answer, push_refusal};
-use riichi_hand::{Job, Refusal, Rules, read_placed};
+use riichi_hand::{Job, Refusal, Rules};
 use riichi_shape::RowSource;
 
 /// The answers as JSON: an object on a line for each record.
 pub struct Objects;
 
 impl Responder for Objects {
-    ghost use Rattle.desk_lines.specs.JsonLine.{json_of, json_alike};
+    ghost use Rattle.desk_lines.specs.JsonLine.{json_of, json_alike, IsJobObject, IsRefusalObject, objects_by_outcome};
     ghost use Rattle.desk_lines.specs.LineAnswer.{IsBy};
 
     ghost may_tell = { IsBy json_of };
 
+    ghost tells_job = { IsJobObject };
+
+    ghost tells_refusal = { IsRefusalObject };
+
+    ghost by_outcome = { objects_by_outcome };
+
     ghost alike = { json_alike };
 
-    #[tactic(auto, unfolding(crate::specs::JsonLine::json_of))]
-    fn respond<S: RowSource>(
-        rules: Rules,
-        line: &[u8],
-        outbox: &mut Outbox,
-        source: &mut S,
-    ) -> LineKind {
-        match read_placed(rules, line) {
-            Ok(None) => LineKind::NoRecord,
-            Ok(Some(job)) => {
-                make_object(rules, &job, outbox, source);
-                outbox.put_object();
-                LineKind::Answered
-            }
-            Err(refusal) => {
-                make_refusal(line, &refusal, outbox);
-                outbox.put_object();
-                LineKind::Refused
-            }
-        }
+    fn put_job<S: RowSource>(rules: Rules, job: &Job, outbox: &mut Outbox, source: &mut S) {
+        make_object(rules, job, outbox, source);
+        outbox.put_object();
+    }
+
+    fn put_refusal(rules: Rules, line: &[u8], refusal: &Refusal<'_>, outbox: &mut Outbox) {
+        make_refusal(line, refusal, outbox);
+        outbox.put_object();
     }
 }
 
@@ -51,32 +44,26 @@ impl Responder for Objects {
 pub struct Members;
 
 impl Responder for Members {
-    ghost use Rattle.desk_lines.specs.JsonLine.{IsMembers, members_alike};
+    ghost use Rattle.desk_lines.specs.JsonLine.{IsMembers, members_alike, AreJobMembers, AreRefusalMembers, members_by_outcome};
 
     ghost may_tell = { IsMembers };
 
+    ghost tells_job = { AreJobMembers };
+
+    ghost tells_refusal = { AreRefusalMembers };
+
+    ghost by_outcome = { members_by_outcome };
+
     ghost alike = { members_alike };
 
-    #[tactic(auto, using(crate::proofs::JsonLemmas::respond_facts))]
-    fn respond<S: RowSource>(
-        rules: Rules,
-        line: &[u8],
-        outbox: &mut Outbox,
-        source: &mut S,
-    ) -> LineKind {
-        match read_placed(rules, line) {
-            Ok(None) => LineKind::NoRecord,
-            Ok(Some(job)) => {
-                make_object(rules, &job, outbox, source);
-                outbox.put_members();
-                LineKind::Answered
-            }
-            Err(refusal) => {
-                make_refusal(line, &refusal, outbox);
-                outbox.put_members();
-                LineKind::Refused
-            }
-        }
+    fn put_job<S: RowSource>(rules: Rules, job: &Job, outbox: &mut Outbox, source: &mut S) {
+        make_object(rules, job, outbox, source);
+        outbox.put_members();
+    }
+
+    fn put_refusal(rules: Rules, line: &[u8], refusal: &Refusal<'_>, outbox: &mut Outbox) {
+        make_refusal(line, refusal, outbox);
+        outbox.put_members();
     }
 }
 
@@ -91,7 +78,12 @@ impl Numbers for Members {
 }
 
 /// Makes the object of a job under these rules.
-fn make_object<S: RowSource>(rules: Rules, job: &Job, outbox: &mut Outbox, source: &mut S)
+pub(crate) fn make_object<S: RowSource>(
+    rules: Rules,
+    job: &Job,
+    outbox: &mut Outbox,
+    source: &mut S,
+)
     ensures object { outbox.new.object.bytes
         ≡ spec.answer_json rules (value_of job.now) }
     ensures same { outbox.new.bytes ≡ outbox.old.bytes }

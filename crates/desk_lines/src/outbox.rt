@@ -32,13 +32,14 @@ const LONGEST_FRONT: usize = MOST_U64 + MOST_BESIDE_NUMBER;
 #[derive(Drop)]
 pub struct Outbox {
     bytes: ArrayVec<u8, ROOM>,
-    pub(crate) text: AnswerText,
+    /// Room for the text of an answer.
+    pub text: AnswerText,
     pub(crate) why: ReasonsText,
     pub(crate) object: JsonText,
 }
 
 impl Outbox {
-    ghost use Rattle.desk_lines.specs.Outbox.{HasRoom, HasRoomForLine};
+    ghost use Rattle.desk_lines.specs.Outbox.{HasRoom, HasRoomForLine, HasRoomForText};
 
     pub(crate) fn new() -> Outbox
         ensures { result.bytes.items ≡ [] }
@@ -108,8 +109,8 @@ impl Outbox {
     }
 
     /// Adds a line with the text that stands in its room.
-    pub(crate) fn put_text(&mut self)
-        requires { HasRoom self.old }
+    pub fn put_text(&mut self)
+        requires { HasRoomForText self.old }
         ensures told { self.new.bytes.items
             ≡ self.old.bytes.items ++ (self.old.text.bytes ++ 10 ∷ []) }
         ensures room { length self.new.bytes.items ≤ length self.old.bytes.items + MOST_TEXT_LINE }

@@ -2,41 +2,40 @@
 ghost use Rattle.std.specs.Prelude.{◌≡◌, Ok, Some};
 ghost use Rattle.riichi_hand.specs.Lines.{outcome_of};
 ghost use Rattle.desk_reasons.specs.Reasons.{IsExplainedWin};
-ghost use Rattle.desk_lines.specs.Reasoned.{win_in};
+ghost use Rattle.desk_lines.specs.Reasoned.{win_in, IsJobReasoned};
 
-use super::line_kind::LineKind;
 use super::numbered::Numbers;
-use super::objects::{Members, Objects};
+use super::objects::{Members, Objects, make_object};
 use super::outbox::Outbox;
 use super::responder::Responder;
 use desk_reasons::push_explained_win;
-use riichi_hand::{Job, Rules, WinRecord, read_line};
+use riichi_hand::{Job, Refusal, Rules, WinRecord, read_line};
 use riichi_shape::RowSource;
 
 /// The answers as JSON, of a win with the member `why` at the end of its object.
 pub struct Reasoned;
 
 impl Responder for Reasoned {
-    ghost use Rattle.desk_lines.specs.Reasoned.{IsReasoned, reasoned_alike};
+    ghost use Rattle.desk_lines.specs.JsonLine.{IsRefusalObject};
+    ghost use Rattle.desk_lines.specs.Reasoned.{IsReasoned, IsJobReasoned, reasoned_by_outcome, reasoned_alike};
 
     ghost may_tell = { IsReasoned };
 
+    ghost tells_job = { IsJobReasoned };
+
+    ghost tells_refusal = { IsRefusalObject };
+
+    ghost by_outcome = { reasoned_by_outcome };
+
     ghost alike = { reasoned_alike };
 
-    fn respond<S: RowSource>(
-        rules: Rules,
-        line: &[u8],
-        outbox: &mut Outbox,
-        source: &mut S,
-    ) -> LineKind {
-        match win_in(rules, line) {
-            None => Objects::respond(rules, line, outbox, source),
-            Some(win) => {
-                make_explained(&win, outbox, source);
-                outbox.put_object();
-                LineKind::Answered
-            }
-        }
+    fn put_job<S: RowSource>(rules: Rules, job: &Job, outbox: &mut Outbox, source: &mut S) {
+        make_reasoned(rules, job, outbox, source);
+        outbox.put_object();
+    }
+
+    fn put_refusal(rules: Rules, line: &[u8], refusal: &Refusal<'_>, outbox: &mut Outbox) {
+        Objects::put_refusal(rules, line, refusal, outbox)
     }
 }
 
@@ -44,26 +43,26 @@ impl Responder for Reasoned {
 pub struct ReasonedMembers;
 
 impl Responder for ReasonedMembers {
-    ghost use Rattle.desk_lines.specs.Reasoned.{AreReasoned, reasoned_members_alike};
+    ghost use Rattle.desk_lines.specs.JsonLine.{AreRefusalMembers};
+    ghost use Rattle.desk_lines.specs.Reasoned.{AreReasoned, AreJobReasoned, reasoned_members_by_outcome, reasoned_members_alike};
 
     ghost may_tell = { AreReasoned };
 
+    ghost tells_job = { AreJobReasoned };
+
+    ghost tells_refusal = { AreRefusalMembers };
+
+    ghost by_outcome = { reasoned_members_by_outcome };
+
     ghost alike = { reasoned_members_alike };
 
-    fn respond<S: RowSource>(
-        rules: Rules,
-        line: &[u8],
-        outbox: &mut Outbox,
-        source: &mut S,
-    ) -> LineKind {
-        match win_in(rules, line) {
-            None => Members::respond(rules, line, outbox, source),
-            Some(win) => {
-                make_explained(&win, outbox, source);
-                outbox.put_members();
-                LineKind::Answered
-            }
-        }
+    fn put_job<S: RowSource>(rules: Rules, job: &Job, outbox: &mut Outbox, source: &mut S) {
+        make_reasoned(rules, job, outbox, source);
+        outbox.put_members();
+    }
+
+    fn put_refusal(rules: Rules, line: &[u8], refusal: &Refusal<'_>, outbox: &mut Outbox) {
+        Members::put_refusal(rules, line, refusal, outbox)
     }
 }
 
@@ -93,6 +92,17 @@ fn win_of(job: &Job) -> Option<WinRecord>
     match job {
         Job::Win(win) => Some(*win),
         Job::Waits(_) | Job::Shape(_) => None,
+    }
+}
+
+/// Makes the object of a job, of a win with its reasons.
+fn make_reasoned<S: RowSource>(rules: Rules, job: &Job, outbox: &mut Outbox, source: &mut S)
+    ensures object { IsJobReasoned rules job.now outbox.new.object.bytes }
+    ensures same { outbox.new.bytes ≡ outbox.old.bytes }
+{
+    match job {
+        Job::Win(win) => make_explained(win, outbox, source),
+        Job::Waits(_) | Job::Shape(_) => make_object(rules, job, outbox, source),
     }
 }
 

@@ -7,9 +7,9 @@ ghost use Rattle.desk_lines.specs.Scripts.{RunsOut, script_report};
 ghost use Rattle.desk_lines.specs.Telling.{text_of};
 ghost use Rattle.desk_lines.specs.Streams.{Gives, GivesAll, WritesAll, StopsWriting, AreWhole, FailsOrGoesOn, IsReadWithin};
 
-use super::answer_lines::answer_lines;
 use super::fault::DeskFault;
 use super::report::DeskReport;
+use super::stream::answer_lines;
 use desk_io::{Sink, Source};
 use desk_script::Script;
 use riichi_shape::SuitMemo;

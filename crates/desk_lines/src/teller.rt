@@ -10,7 +10,8 @@ use riichi_shape::RowSource;
 use std::alloc::AllocError;
 
 /// What answers the lines of a stream, one after another. What it keeps of a line it may need memory for.
-pub(crate) trait Teller {
+/// [`answer_lines`](crate::answer_lines) has the lines of a reader told by it.
+pub trait Teller {
     /// An answer, of which more may be told than its text.
     ghost Answer: { Type 0 };
 

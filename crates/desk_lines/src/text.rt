@@ -7,12 +7,12 @@ ghost use Rattle.desk_lines.specs.Slips.{text_report};
 ghost use Rattle.desk_lines.specs.Streams.{Gives, GivesAll, WritesAll, StopsWriting, AreWhole, FailsOrGoesOn, IsReadWithin};
 ghost use Rattle.desk_lines.specs.Telling.{text_of};
 
-use super::answer_lines::answer_lines;
 use super::answering::Plain;
 use super::fault::DeskFault;
 use super::records::Records;
 use super::report::{DeskReport, TextReport};
 use super::responder::Responder;
+use super::stream::answer_lines;
 use desk_io::{Sink, Source};
 use riichi_hand::Rules;
 use riichi_shape::{RowSource, SuitMemo};

@@ -14,7 +14,7 @@ use crate::values::push_rows;
 use desk_json::{JSON_ROOM, JsonText, MOST_OPEN_WIN, push_open_win};
 use riichi_explain::{
     MOST_DORA_ROWS, MOST_FU_ROWS, MOST_HAN_ROWS, MOST_PAY_ROWS, MOST_READINGS, RankedReading,
-    WinExplanation, WonHand, explain_win, ranked_readings,
+    WinExplanation, WonHand, explain_ranked, ranked_readings,
 };
 use riichi_hand::WinRecord;
 use riichi_shape::RowSource;
@@ -50,8 +50,8 @@ pub fn push_explained_win<R: RowSource>(text: &mut JsonText, win: &WinRecord, so
     ensures { (object : List ℕ) × IsExplainedWin win.now object
         × (text.new.bytes ≡ text.old.bytes ++ object) }
 {
-    let explanation = explain_win(source, win);
     let ranked = ranked_readings(win);
+    let explanation = explain_ranked(source, win, ranked.as_slice());
     push_open_win(text, win.rules(), &explanation.answer());
     text.push_str(",\"why\":");
     push_why(text, &explanation, ranked.as_slice());

@@ -11,3 +11,4 @@ pub mod RulesLines
 pub mod ExplainedLines
 pub mod Lists
 pub mod WaitLemmas
+pub mod BestRanked

@@ -13,3 +13,4 @@ pub mod Others
 pub mod Explanation
 pub mod Equality
 pub mod Waits
+pub mod RankedAnswer

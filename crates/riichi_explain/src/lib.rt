@@ -2,8 +2,8 @@
 //!
 //! [`explain_win`] gives the reading of a win that scores and the rows of it, which add up; [`explain_shape`] how far a shape is
 //! from each form. [`push_win_lines`] and [`push_shanten_line`] write their lines, which begin with two spaces.
-//! [`ranked_readings`] gives every reading of a win with its score, the best first, and [`push_other_reading`] writes what
-//! one is worth that isn't the best. No call takes memory.
+//! [`ranked_readings`] gives every reading of a win with its score, the best first; [`explain_ranked`] explains the win by these,
+//! and [`push_other_reading`] writes what one is worth that isn't the best. No call takes memory.
 //!
 //! [`explain_waits`] gives the kinds that a hand waits for, each as a [`KindWait`]: the copies that neither hand nor melds hold,
 //! and the sorts of wait that the readings of the hand with one more of the kind make. [`push_waits_line`] writes their line.
@@ -49,7 +49,7 @@ pub use reading_text::push_no_yaku;
 pub use room::{REASONS_ROOM, ReasonsText};
 pub use waits::{ExplainedWaits, KindWait, KindWaits, MOST_KIND_WAITS, WaitSorts, explain_waits};
 pub use waits_text::{MOST_WAITS_LINE, push_waits_line};
-pub use win::{WinExplanation, WonHand, explain_win};
+pub use win::{WinExplanation, WonHand, explain_ranked, explain_win};
 pub use win_text::{MOST_WON_HAND, push_won_hand, won_hand_text};
 pub use words::{
     MOST_DORA_JAPANESE, MOST_DORA_WORDS, MOST_FU_JAPANESE, MOST_FU_WORDS, MOST_PAYER,

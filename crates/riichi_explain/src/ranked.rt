@@ -5,6 +5,7 @@ ghost use Rattle.riichi_score.specs.Best as best_spec;
 ghost use Rattle.riichi_score.specs.Fu.{HasFourSets};
 ghost use Rattle.riichi_score.specs.Scores as score_spec;
 ghost use Rattle.riichi_explain.specs.Ranked as spec;
+ghost use Rattle.riichi_explain.specs.RankedAnswer.{ranked_answer};
 ghost use Rattle.riichi_explain.specs.declared.ranked.RankedReading.{RankedReading};
 
 use arrayvec::ArrayVec;
@@ -42,6 +43,8 @@ pub type Ranking = ArrayVec<RankedReading, MOST_READINGS>;
 /// Every reading of a win with its score, none worth more than the one before it.
 pub fn ranked_readings(win: &WinRecord) -> Ranking
     ensures ranked { spec.AreRanked win.now result.items }
+    ensures best { ranked_answer result.items ≡ best_spec.best_of win.now }
+    ensures greatest { best_spec.IsBest win.now (ranked_answer result.items) }
     ensures sets { All (λ one. HasFourSets one.reading win.now) result.items }
 {
     let hand = hand_of(win);

@@ -1,8 +1,10 @@
 //! Why a win is worth what it is.
-ghost use Rattle.std.specs.Prelude.{◌≡◌};
-ghost use Rattle.riichi_score.specs.Best.{best_of};
+ghost use Rattle.std.specs.Prelude.{◌≡◌, ◌≤◌, length};
+ghost use Rattle.riichi_score.specs.Best.{best_of, IsBest};
 ghost use Rattle.riichi_score.specs.Fu.{HasFourSets};
 ghost use Rattle.riichi_score.specs.Scores.{score_of, IsReadingOf};
+ghost use Rattle.riichi_explain.specs.Ranked.{AreRanked};
+ghost use Rattle.riichi_explain.specs.RankedAnswer.{ranked_answer};
 ghost use Rattle.riichi_explain.specs.Win as spec;
 
 use crate::base::{BaseRule, base_rule};
@@ -11,7 +13,7 @@ use crate::fu::{FuRows, fu_rows};
 use crate::han::{HanRows, han_rows};
 use crate::missed::{MissedWin, missed_win};
 use crate::payers::{PayRows, pay_rows};
-use crate::ranked::{Ranking, ranked_readings};
+use crate::ranked::{MOST_READINGS, RankedReading, Ranking, ranked_readings};
 use arrayvec::ArrayVec;
 use riichi_hand::WinRecord;
 use riichi_score::{BestReading, Score, WinAnswer, best_reading};
@@ -80,6 +82,39 @@ pub fn explain_win<R: RowSource>(source: &mut R, win: &WinRecord) -> WinExplanat
         BestReading::NoYaku => WinExplanation::NoYaku(ranked_readings(win)),
         BestReading::NoWin => WinExplanation::NoWin(missed_win(source, win)),
     }
+}
+
+/// The same by the readings of the win, the best first, so that none of them is scored again.
+#[tactic(auto, using(crate::proofs::BestRanked::each_is_reading))]
+pub fn explain_ranked<R: RowSource>(
+    source: &mut R,
+    win: &WinRecord,
+    ranked: &[RankedReading],
+) -> WinExplanation
+    requires few { length ranked.now ≤ MOST_READINGS }
+    requires ranked { AreRanked win.now ranked.now }
+    requires best { ranked_answer ranked.now ≡ best_of win.now }
+    requires greatest { IsBest win.now (ranked_answer ranked.now) }
+    ensures answer { spec.explained_answer result ≡ best_of win.now }
+    ensures explains { spec.Explains win.now result }
+    ensures stays { source.new ≡ source.old }
+{
+    match ranked.first() {
+        None => WinExplanation::NoWin(missed_win(source, win)),
+        Some(first) => match first.score {
+            Some(score) => WinExplanation::Won(won_hand(win, first.reading, score)),
+            None => WinExplanation::NoYaku(copied(ranked)),
+        },
+    }
+}
+
+fn copied(ranked: &[RankedReading]) -> Ranking
+    requires { length ranked.now ≤ MOST_READINGS }
+    ensures { result.items ≡ ranked.now }
+{
+    let mut all = ArrayVec::new();
+    all.try_extend_from_slice(ranked).unwrap();
+    all
 }
 
 fn won_hand(win: &WinRecord, reading: Reading, score: Score) -> WonHand

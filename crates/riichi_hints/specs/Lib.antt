@@ -1,3 +1,4 @@
 pub mod Hint
 pub mod Near
 pub mod Crowd
+pub mod Numbers

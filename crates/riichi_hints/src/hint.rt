@@ -1,10 +1,10 @@
 //! The lines that follow a refusal, and among them a line that is answered.
-ghost use Rattle.std.specs.Prelude.{◌≡◌, ◌+◌, ◌≤◌, ◌++◌, ℕ, List, Option, Some, IfSome, length, codes, false, IsTrue, ◌↔◌};
+ghost use Rattle.std.specs.Prelude.{◌≡◌, ◌+◌, ◌≤◌, ◌++◌, ℕ, List, Option, Some, IfNone, IfSome, length, codes, false, IsTrue, ◌↔◌};
 ghost use Rattle.std.specs.List.{list_any};
 ghost use Rattle.arrayvec.specs.ArrayString.{array_string_len};
 ghost use Rattle.riichi_hand.specs.Lines.{outcome_of, is_other_byte};
 ghost use Rattle.riichi_hand.specs.Refusals.{IsRefusalOf};
-ghost use Rattle.riichi_hints.specs.Hint.{is_record, IsNote, IsAnswered, IsPrintable, told_line, IsRefusalText};
+ghost use Rattle.riichi_hints.specs.Hint.{is_record, IsNote, IsAnswered, IsPrintable, HaveNoPlace, IsNoteUntold, told_line, IsRefusalText, HasItsNote};
 
 use crate::draft::Draft;
 use crate::notes::note_of;
@@ -19,7 +19,10 @@ use riichi_text::{ANSWER_ROOM, AnswerText};
 pub fn push_refusal(text: &mut AnswerText, rules: Rules, line: &[u8], refusal: &Refusal<'_>)
     requires room { array_string_len text.old + MOST_REFUSAL ≤ ANSWER_ROOM }
     requires refusal { IsRefusalOf line.now refusal.now }
-    ensures { (said : List ℕ) × IsRefusalText rules line.now refusal.now.fault said
+    ensures text { (said : List ℕ) × IsRefusalText rules line.now refusal.now.fault said
+        × (text.new.bytes ≡ text.old.bytes ++ said) }
+    ensures note { (said : List ℕ)
+        × HasItsNote rules line.now refusal.now.fault (array_string_len text.old) said
         × (text.new.bytes ≡ text.old.bytes ++ said) }
 {
     push_refusal_lines(text, line, refusal);
@@ -31,6 +34,7 @@ fn push_note(text: &mut AnswerText, line: &[u8], refusal: &Refusal<'_>)
     requires { IsRefusalOf line.now refusal.now }
     ensures { let fault = refusal.now.fault in
         (note : Option (List ℕ)) × IfSome note (λ words. IsNote fault line.now words × IsPrintable words)
+        × IfNone note (IsNoteUntold fault line.now (array_string_len text.old))
         × (text.new.bytes ≡ text.old.bytes ++ told_line (codes "  ") note) }
 {
     if let Some(note) = note_of(line, refusal) {
@@ -88,6 +92,7 @@ fn push_line(text: &mut AnswerText, before: &str, words: &[u8])
         → text.new.bytes ≡ text.old.bytes ++ told_line before.now (Some words.now) }
     ensures line { (told : Option (List ℕ))
         × IfSome told (λ line. (line ≡ words.now) × IsPrintable line)
+        × IfNone told (HaveNoPlace (array_string_len text.old) words.now)
         × (text.new.bytes ≡ text.old.bytes ++ told_line before.now told) }
 {
     if has_other_byte(words) || text.remaining_capacity() < words.len() + 9 {

@@ -18,6 +18,7 @@ mod hint;
 mod mending;
 mod names;
 mod notes;
+mod numbers;
 mod plain;
 mod text;
 mod tiles;

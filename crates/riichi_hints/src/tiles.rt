@@ -1,6 +1,7 @@
 //! Texts of tiles, as players write them.
 ghost use Rattle.std.specs.Prelude.{◌≡◌, ◌<◌, IfNone, IfSome};
 ghost use Rattle.riichi_hints.specs.Crowd as spec;
+ghost use Rattle.riichi_hints.specs.Numbers as numbers;
 
 use crate::text::{Part, add, add_all, last};
 use riichi_tiles::is_digit;
@@ -22,7 +23,9 @@ pub(crate) fn are_tiles(word: &[u8]) -> bool {
 }
 
 /// How many tiles a text spells: each digit is one.
-pub(crate) fn tile_count(text: &[u8]) -> usize {
+pub(crate) fn tile_count(text: &[u8]) -> usize
+    ensures { result ≡ numbers.tiles_in text.now }
+{
     text.iter().filter(|byte| is_digit(**byte)).count()
 }
 
@@ -79,7 +82,9 @@ fn honour_of(letter: u8) -> u8 {
 }
 
 /// The last tile of a text.
-pub(crate) fn last_tile(text: &[u8]) -> Option<Tile> {
+pub(crate) fn last_tile(text: &[u8]) -> Option<Tile>
+    ensures { result ≡ numbers.last_tile text.now }
+{
     match text {
         [.., digit, suit] => Some(Tile {
             digit: *digit,

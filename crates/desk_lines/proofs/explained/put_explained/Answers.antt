@@ -1,22 +1,27 @@
-use Rattle.std.proofs.Common.{◌≡◌, ℕ, List, [], ◌∷◌, ◌++◌, Ok, Err, Some, refl, ap, ◌∙◌}
-use Rattle.desk_core.specs.AnswerText.{answer_text}
-use Rattle.desk_core.specs.Value.{value_of}
-use Rattle.riichi_explain.specs.Explanation.{IsJobText}
-use Rattle.desk_lines.specs.declared.line_kind.LineKind.TheVariants.{Answered, Refused}
-use Rattle.desk_lines.proofs.ExplainedPuts.{puts_said}
+use Rattle.std.proofs.Common.{ℕ, List, [], ◌∷◌, ◌++◌, refl, sym, ap, ◌∙◌}
+use Rattle.riichi_hand.specs.declared.job.Job.TheVariants as job
+use Rattle.riichi_explain.specs.Waits.{kind_waits, waits_line}
+use Rattle.desk_lines.proofs.ExplainedPuts.{job_with_why}
+use Rattle.desk_lines.proofs.JobTexts.{of_win, of_waits, of_shape}
 use Rattle.desk_lines.proofs.explained.put_explained.Goals as goal
 
-pub returns-in-Ok-Some-clause-puts : goal.returns-in-Ok-Some-clause-puts
-returns-in-Ok-Some-clause-puts g c =
-    let job = c.in-Ok-Some.job in
+pub returns-in-Waits : goal.returns-in-Waits
+returns-in-Waits g c =
     let before = c.args.outbox.now.bytes.items in
-    let after = c.put_job.new.outbox.bytes.items in
-    let put : (why : List ℕ) × IsJobText c.args.shown job why × (after ≡ before ++ ((answer_text (value_of job) ++ 10 ∷ []) ++ why)) = rw c.in-Ok-Some.field-0-is at c.put_job.ensures in
-    puts_said c.args.shown c.args.rules c.args.line.now before after put.0 (answer_text (value_of job)) (Ok (Some job)) Answered
-    (c.in-Ok-Some.ensures ∙ ap Ok c.in-Ok-Some.field-0-is) refl refl put.1 put.2
+    let why = waits_line (kind_waits c.in-Waits.hand) in
+    rw c.in-Waits.is (job_with_why c.args.shown (job.Waits c.in-Waits.hand) before c.put_kinds.new.outbox.bytes.items why refl
+    (c.put_kinds.ensures ∙ ap (λ (answer : List ℕ). before ++ ((answer ++ 10 ∷ []) ++ why)) (sym (of_waits c.in-Waits.hand))))
 
-pub returns-in-Err-clause-puts : goal.returns-in-Err-clause-puts
-returns-in-Err-clause-puts g c =
-    let put = c.put_refusal.ensures in
-    puts_said c.args.shown c.args.rules c.args.line.now c.args.outbox.now.bytes.items c.put_refusal.new.outbox.bytes.items put.0 _ (Err c.in-Err.refusal.fault) Refused
-    c.in-Err.ensures.0 refl refl put.1 put.2
+pub returns-in-Win : goal.returns-in-Win
+returns-in-Win g c =
+    let before = c.args.outbox.now.bytes.items in
+    let put = c.put_win.ensures in
+    rw c.in-Win.is (job_with_why c.args.shown (job.Win c.in-Win.win) before c.put_win.new.outbox.bytes.items put.0 put.1
+    (put.2 ∙ ap (λ (answer : List ℕ). before ++ ((answer ++ 10 ∷ []) ++ put.0)) (sym (of_win c.in-Win.win))))
+
+pub returns-in-Shape : goal.returns-in-Shape
+returns-in-Shape g c =
+    let before = c.args.outbox.now.bytes.items in
+    let put = c.put_forms.ensures in
+    rw c.in-Shape.is (job_with_why c.args.shown (job.Shape c.in-Shape.tiles) before c.put_forms.new.outbox.bytes.items put.0 put.1
+    (put.2 ∙ ap (λ (answer : List ℕ). before ++ ((answer ++ 10 ∷ []) ++ put.0)) (sym (of_shape c.in-Shape.tiles))))

@@ -1,4 +1,4 @@
-use Rattle.std.proofs.Common.{List, refl, ◌∙◌, ap, ◌++◌, ℕ}
+use Rattle.std.proofs.Common.{List, refl, ◌∙◌, ap, ◌++◌}
 use Rattle.riichi_explain.specs.declared.ranked.RankedReading.{RankedReading}
 use Rattle.riichi_explain.specs.Others.{others_text}
 use Rattle.desk_lines.proofs.explained.put_others.Goals as goal

@@ -14,6 +14,7 @@ loop-line-preserved g c =
     let told = kept.1 in
     let more = front_longer c.args.text.now front c.loop-line.rest.now kept.2.cut c.in-Some.line.now c.in-Some.after.now c.in-Some.ensures in
     let puts = c.respond.ensures.puts in
+    let may_be_told = g.met.A.Responder.by_outcome c.args.rules c.in-Some.line.now puts.told puts.may_be_told in
     let put = c.put_at.ensures.put c.if-not-put_at.false in
     let text = with_line_feed puts.told in
     let is : c.as_slice-told.result.now ≡ text = c.as_slice-told.ensures ∙ puts.put ∙ ap (λ b. b ++ text) c.clear.ensures in
@@ -24,7 +25,7 @@ loop-line-preserved g c =
       record {
         cut = more.0;
         are_told = subst (λ (ls : List (List ℕ)). AreTold g.A.Responder.may_tell c.args.rules ls (told ++ answers_in puts.told)) (sym more.1)
-            (AreTold_last g.A.Responder.may_tell c.args.rules (lines front) c.in-Some.line.now told puts.told kept.2.are_told puts.may_be_told);
+            (AreTold_last g.A.Responder.may_tell c.args.rules (lines front) c.in-Some.line.now told puts.told kept.2.are_told may_be_told);
         filled = omega (arith, ap length is, ap length all, length-append (text_of told) text, kept.2.filled);
         within = omega (arith, put.0);
         room = longer ∙ ap (λ t. (text_of told ++ t) ++ drop (c.loop-line.filled + length c.as_slice-told.result.now) c.args.room.now) is
@@ -36,6 +37,7 @@ pub returns-then-not-put_at : goal.returns-then-not-put_at
 returns-then-not-put_at g c =
     let kept = c.loop-line.invariant in
     let puts = c.respond.ensures.puts in
+    let may_be_told = g.met.A.Responder.by_outcome c.args.rules c.in-Some.line.now puts.told puts.may_be_told in
     let left = c.put_at.ensures.left c.if-not-put_at.true in
     let text = with_line_feed puts.told in
     let is : c.as_slice-told.result.now ≡ text = c.as_slice-told.ensures ∙ puts.put ∙ ap (λ b. b ++ text) c.clear.ensures in
@@ -49,6 +51,6 @@ returns-then-not-put_at g c =
       filled_is = kept.2.filled;
       is_within = kept.2.within;
       room_is = left.1 ∙ kept.2.room;
-      stops = inr (no_room g.A.Responder.may_tell c.args.rules c.in-Some.line.now c.loop-line.rest.now c.in-Some.after.now c.in-Some.ensures puts.told puts.may_be_told c.loop-line.filled (length c.args.room.now) kept.2.within
+      stops = inr (no_room g.A.Responder.may_tell c.args.rules c.in-Some.line.now c.loop-line.rest.now c.in-Some.after.now c.in-Some.ensures puts.told may_be_told c.loop-line.filled (length c.args.room.now) kept.2.within
           (omega (arith, left.0, ap length is, ap length kept.2.room)));
     }

@@ -1,4 +1,4 @@
-use Rattle.std.proofs.Common.{◌∙◌, map}
+use Rattle.std.proofs.Common.{◌∙◌}
 use Rattle.riichi_hand.specs.Rules.{Rules}
 use Rattle.desk_lines.specs.Lines.{lines}
 use Rattle.desk_lines.specs.Numbered.{NumberRecords}

@@ -41,6 +41,7 @@ loop-line-preserved g c =
     let line = c.in-Some.line.now in
     let cut = c.in-Some.ensures in
     let puts = c.respond-kind.ensures.puts in
+    let may_be_told = g.met.A.Responder.by_outcome c.args.rules line puts.told puts.may_be_told in
     let tally = c.with_line-tally.ensures in
     let text = with_line_feed puts.told in
     let is : c.as_slice.result.now ≡ text = c.as_slice.ensures ∙ puts.put ∙ ap (λ b. b ++ text) c.clear.ensures in (
@@ -48,7 +49,7 @@ loop-line-preserved g c =
       told ++ answers_in puts.told,
       record {
         lines = so_far.2.lines ∙ ap (λ rest. done ++ rest) cut.0 ∙ sym (append_assoc done (line ∷ []) (ended_lines c.in-Some.after.now));
-        are_told = AreTold_last g.A.Responder.may_tell c.args.rules done line told puts.told so_far.2.are_told puts.may_be_told;
+        are_told = AreTold_last g.A.Responder.may_tell c.args.rules done line told puts.told so_far.2.are_told may_be_told;
         answers = c.in_ok-extend_from_slice.ensures.items ∙ ap (λ front. front ++ c.as_slice.result.now) so_far.2.answers ∙ ap (λ t. (c.args.answers.now.items ++ text_of told) ++ t) is
             ∙ append_assoc c.args.answers.now.items (text_of told) text ∙ ap (λ t. c.args.answers.now.items ++ t) (sym (text_of_more told puts.told));
         tally = tally ∙ ap (λ (t : Tally). tally_with t line c.respond-kind.result) so_far.2.tally ∙ ap (tally_with (tally_of c.args.rules done) line) c.respond-kind.ensures.kind

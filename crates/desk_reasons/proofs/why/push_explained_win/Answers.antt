@@ -11,14 +11,14 @@ pub returns : goal.returns
 returns g c =
     let old = c.args.text.now.bytes in
     let opened = c.push_open_win.new.text.bytes in
-    let explained = c.explain_win-explanation in
+    let explained = c.explain_ranked-explanation in
     let ranked = c.ranked_readings-ranked in
     let tree = why_tree explained.result ranked.result.items in
     let named : Named = (codes "why", tree) in
     let rules = c.args.win.now.rules in
     let whole = c.push_open_win.ensures.bytes ∙ ap (λ told. old ++ answer_json told (answer.Win c.answer.result)) c.rules.ensures
     ∙ ap (λ win. old ++ answer_json rules (answer.Win win)) (c.answer.ensures ∙ explained.ensures.answer) in
-    let why = c.push_why.ensures.bytes ∙ ap (λ told. c.push_str.new.self.bytes ++ json_text (why_tree explained.result told)) c.as_slice.ensures.value in (
+    let why = c.push_why.ensures.bytes ∙ ap (λ told. c.push_str.new.self.bytes ++ json_text (why_tree explained.result told)) c.as_slice-2.ensures.value in (
       _,
       record {
         explanation = explained.result;

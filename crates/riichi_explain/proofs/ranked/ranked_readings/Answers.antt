@@ -5,6 +5,8 @@ use Rattle.riichi_score.specs.Scores.{score_of}
 use Rattle.riichi_score.proofs.Greatest.{AreReadingsOf, AreReadingsOf-from}
 use Rattle.riichi_explain.specs.declared.ranked.RankedReading.{RankedReading}
 use Rattle.riichi_explain.specs.Ranked.{AreInOrder, AreRanked}
+use Rattle.riichi_tiles.specs.Tiles.{IsCounts}
+use Rattle.riichi_explain.proofs.BestRanked.{ranked_is_best}
 use Rattle.riichi_explain.proofs.RankLemmas.{readings_in, next_four_sets, each_once-insert, scored-insert, ranked_four_sets}
 use Rattle.riichi_explain.proofs.ranked.ranked_readings.Goals as goal
 
@@ -54,3 +56,13 @@ returns-clause-ranked c =
 
 pub returns-clause-sets : goal.returns-clause-sets
 returns-clause-sets c = ranked_four_sets c.args.win.now c.loop-reading.ranked.items (returns-clause-ranked c)
+
+pub returns-clause-best : goal.returns-clause-best
+returns-clause-best c =
+    let counts = subst IsCounts c.hand_of-hand.ensures.value c.hand_of-hand.ensures.counts in
+    (ranked_is_best c.args.win.now c.loop-reading.ranked.items counts c.hand_of-hand.ensures.win (returns-clause-ranked c)).0
+
+pub returns-clause-greatest : goal.returns-clause-greatest
+returns-clause-greatest c =
+    let counts = subst IsCounts c.hand_of-hand.ensures.value c.hand_of-hand.ensures.counts in
+    (ranked_is_best c.args.win.now c.loop-reading.ranked.items counts c.hand_of-hand.ensures.win (returns-clause-ranked c)).1

@@ -24,8 +24,14 @@ returns-in-Ok-clause-line c =
     let pushed = c.push_str-in-Ok.ensures.bytes ∙ ap (λ (t : List ℕ). c.push_str.new.self.bytes ++ t) c.in-Ok.ensures.cases.0 in (
       Some words,
       (refl, sym c.has_other_byte.ensures ∙ c.if-has_other_byte.false),
+      tt,
       pushed-three c.args.text.now.bytes c.args.before.now words (codes "\n") c.push_str.ensures.bytes pushed c.push_str-in-Ok-2.ensures.bytes,
     )
 
 pub returns-in_default-clause-room : goal.returns-in_default-clause-room
 returns-in_default-clause-room c = λ printable fits. absurd (c.in_default.ensures.cases.0 (IsUtf8-from_ascii c.args.words.now (plain c.args.words.now printable)))
+
+pub returns-in_default-clause-line : goal.returns-in_default-clause-line
+returns-in_default-clause-line c =
+    let printable = sym c.has_other_byte.ensures ∙ c.if-has_other_byte.false in
+    absurd (c.in_default.ensures.cases.0 (IsUtf8-from_ascii c.args.words.now (plain c.args.words.now printable)))

@@ -12,9 +12,9 @@ use Rattle.desk_lines.proofs.ToldLemmas.{Stands-new, Stands_flushed, Stands-writ
 use Rattle.desk_lines.proofs.CutLemmas.{ended_lines-more}
 use Rattle.desk_lines.proofs.ReadingLemmas.{told_more, keeps_more, Whole, at_end, whole_lines}
 use Rattle.desk_lines.proofs.StreamLemmas.{Gives-more, err_at, passed_on}
-use Rattle.desk_lines.proofs.answer_lines.answer_lines.Given.{Over}
-use Rattle.desk_lines.proofs.answer_lines.answer_lines.Goals.{After-add_lines}
-use Rattle.desk_lines.proofs.answer_lines.answer_lines.Goals as goal
+use Rattle.desk_lines.proofs.stream.answer_lines.Given.{Over}
+use Rattle.desk_lines.proofs.stream.answer_lines.Goals.{After-add_lines}
+use Rattle.desk_lines.proofs.stream.answer_lines.Goals as goal
 
 pub loop-turn-init : goal.loop-turn-init
 loop-turn-init g c =

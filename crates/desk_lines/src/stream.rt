@@ -26,8 +26,9 @@ const ROOM: usize = 73_730;
 const MOST_READS: u64 = 4_294_967_295;
 
 /// Has the lines that a reader gives told, to its end. It reads and
-/// writes in large pieces; the answers to all lines that have ended are written before it reads again.
-pub(crate) fn answer_lines<T: Teller, S: RowSource, R: Source, W: Sink>(
+/// writes in large pieces; the answers to all lines that have ended are written before it reads again. It takes no memory of its own,
+/// and has no limit on the number of lines.
+pub fn answer_lines<T: Teller, S: RowSource, R: Source, W: Sink>(
     teller: &mut T,
     source: &mut S,
     reader: &mut R,

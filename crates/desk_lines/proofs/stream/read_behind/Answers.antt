@@ -3,7 +3,7 @@ use Rattle.std.proofs.Math.Seq.{take-append_seam, take-append-add}
 use Rattle.desk_io.specs.Calls.{found_ends}
 use Rattle.std.proofs.lemmas.List.{take-append-le}
 use borrow.Rule.Slice.PartMut.{put_mid, post_of}
-use Rattle.desk_lines.proofs.answer_lines.read_behind.Goals as goal
+use Rattle.desk_lines.proofs.stream.read_behind.Goals as goal
 
 -- a read that gives some bytes found no end
 ends_stay : {E : Type 0} (result : Result ℕ E) (new old count : ℕ) (buffer : List ℕ) → result ≡ Ok count → 0 < count → new ≡ old + found_ends result buffer → new ≡ old

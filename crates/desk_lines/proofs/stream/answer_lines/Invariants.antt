@@ -3,7 +3,7 @@ use Rattle.desk_lines.specs.Told.{Stands, lines_of}
 use Rattle.desk_lines.specs.Lines.{ended_lines}
 use Rattle.desk_lines.specs.Reading.{kept}
 use Rattle.desk_lines.specs.Streams.{Gives}
-use Rattle.desk_lines.proofs.answer_lines.answer_lines.Given as goal
+use Rattle.desk_lines.proofs.stream.answer_lines.Given as goal
 
 -- the lines of the text that the reader has given are answered, the front of what follows is held, and no call has failed
 abbrev pub invariant-loop-turn : goal.invariant-loop-turn
