@@ -1,7 +1,7 @@
 -- The rules that the words of a line `game` say.
 use Rattle.std.specs.Prelude.{◌≡◌, ℕ, List, [], ◌∷◌, codes, Bool, false, ◌||◌, Option, None, Some, is_some, MatchOption, if◌then◌else◌}
 use Rattle.std.specs.Str.{bytes_eq}
-use Rattle.riichi_hand.specs.Rules.{Rules, first_profile}
+use Rattle.riichi_hand.specs.Rules.{Rules}
 use Rattle.riichi_hand.specs.RulesText.{NamesRules}
 use Rattle.riichi_hand.specs.Entries.{cut_at_equals}
 use Rattle.riichi_table.specs.Tables.{club}
@@ -43,10 +43,10 @@ has_twice (word ∷ words) = is_some (first_value (key_of word) words) || has_tw
 abbrev pub AreNamed : List ℕ → Option Rules → Type 0
 AreNamed text named = MatchOption named ((rules : Rules) → NamesRules text rules → ⊥) (λ rules. NamesRules text rules)
 
--- those of the first profile where nothing is said
-abbrev pub IsHandRules : Option (List ℕ) → Option Rules → Type 0
-IsHandRules None named = named ≡ Some first_profile
-IsHandRules (Some text) named = AreNamed text named
+-- the given ones where nothing is said
+abbrev pub IsHandRules : Rules → Option (List ℕ) → Option Rules → Type 0
+IsHandRules given None named = named ≡ Some given
+IsHandRules given (Some text) named = AreNamed text named
 
 -- `table=` sets several at once, wherever it stands
 abbrev pub preset_if_said : Option (List ℕ) → Option TableRules

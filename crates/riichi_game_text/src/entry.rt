@@ -37,9 +37,9 @@ pub fn read_entry(
     }
 }
 
-/// Whether a line is too long, no UTF-8, or has a control byte.
+/// Whether a line is too long, no UTF-8, or has a control byte: so it is refused, whatever it says.
 #[tactic(auto, unfolding(crate::specs::Entries::is_odd))]
-fn is_odd(line: &[u8]) -> bool
+pub fn is_odd(line: &[u8]) -> bool
     ensures { result ≡ spec.is_odd line.now }
 {
     line.len() > MOST_LINE || has_control(line) || text_of(line).is_none()

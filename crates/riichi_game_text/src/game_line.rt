@@ -7,6 +7,7 @@ ghost use Rattle.riichi_game_text.specs.GameLines as spec;
 
 use crate::name::{Names, read_names};
 use crate::table_words::{number_of_word, read_table_rules};
+use riichi_hand::Rules;
 use riichi_table::TableRules;
 
 /// What the line says that begins a game.
@@ -20,15 +21,15 @@ pub struct GameLine {
     pub at: Option<u32>,
 }
 
-/// What the words behind `game` say. None where a name, a word or a value can't be, a word stands twice, or there are other than
+/// What the words behind `game` say; the rules for hands are the given ones where no word names them. None where a name, a word or a value can't be, a word stands twice, or there are other than
 /// four names or none.
-pub fn read_game(text: &[u8]) -> Option<GameLine>
+pub fn read_game(given: Rules, text: &[u8]) -> Option<GameLine>
     ensures { let words = said_in text.now in
-        (hand : Option Rules) × IsHandRules (spec.hand_word words) hand
+        (hand : Option Rules) × IsHandRules given (spec.hand_word words) hand
         × MatchOption result (spec.game_of hand words ≡ None)
         (λ game. spec.game_of hand words ≡ Some (spec.said_by game)) }
 {
-    let rules = read_table_rules(text);
+    let rules = read_table_rules(given, text);
     match (read_names(text), rules) {
         (Some(names), Some(rules)) => Some(GameLine {
             names,

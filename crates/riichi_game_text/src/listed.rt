@@ -33,7 +33,9 @@ fn with_another(names: &Names, listed: ByPlayer<bool>, name: &[u8]) -> Option<By
     }
 }
 
-pub(crate) fn players_if_said(names: &Names, list: Option<&[u8]>) -> Option<ByPlayer<bool>>
+/// The players of names with commas between them, and nobody where nothing is said; none where a name is no player's, or stands
+/// twice.
+pub fn players_if_said(names: &Names, list: Option<&[u8]>) -> Option<ByPlayer<bool>>
     ensures { result
         ≡ spec.players_if_said (names_in names.now) (option_map (λ list. list.now) list.entry) }
 {

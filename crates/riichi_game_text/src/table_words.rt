@@ -12,14 +12,14 @@ use riichi_hand::{Rules, read_rules};
 use riichi_table::TableRules;
 use riichi_tiles::split_at_mark;
 
-/// The rules that the words with `=` of a text say. None where a word stands twice, is no word or has a value that can't be.
+/// The rules that the words with `=` of a text say; those for hands are the given ones where no word names them. None where a word stands twice, is no word or has a value that can't be.
 #[tactic(auto, unfolding(crate::specs::TableWords::rules_of))]
-pub(crate) fn read_table_rules(text: &[u8]) -> Option<TableRules>
+pub(crate) fn read_table_rules(given: Rules, text: &[u8]) -> Option<TableRules>
     ensures { let words = rule_words (said_in text.now) in
-        (hand : Option Rules) × spec.IsHandRules (spec.first_value (codes "rules") words) hand
+        (hand : Option Rules) × spec.IsHandRules given (spec.first_value (codes "rules") words) hand
         × (result ≡ spec.rules_of hand words) }
 {
-    let hand = hand_rules(first_value(text, b"rules"));
+    let hand = hand_rules(given, first_value(text, b"rules"));
     rules_with(hand, text)
 }
 
@@ -58,12 +58,12 @@ fn preset(value: Option<&[u8]>) -> Option<TableRules>
     }
 }
 
-/// The rules for hands that a value names.
-fn hand_rules(value: Option<&[u8]>) -> Option<Rules>
-    ensures { spec.IsHandRules (option_map (λ value. value.now) value.entry) result }
+/// The rules for hands that a value names, or the given ones.
+fn hand_rules(given: Rules, value: Option<&[u8]>) -> Option<Rules>
+    ensures { spec.IsHandRules given (option_map (λ value. value.now) value.entry) result }
 {
     match value {
-        None => Some(Rules::One),
+        None => Some(given),
         Some(value) => named_rules(value),
     }
 }

@@ -6,7 +6,7 @@ use riichi_hand::next_word;
 use riichi_tiles::split_at_mark;
 
 /// The first word of a text, and all that comes after it; none where there is no word before a note.
-pub(crate) fn next_said(text: &[u8]) -> Option<(&[u8], &[u8])>
+pub fn next_said(text: &[u8]) -> Option<(&[u8], &[u8])>
     ensures { MatchOption result (spec.said_in text.now ≡ [])
         (λ found. (spec.said_in text.now ≡ found.0.now ∷ spec.said_in found.1.now)
         × (length found.1.now < length text.now)) }

@@ -1,6 +1,6 @@
 //! Texts of answers.
 use riichi_game_text::{Names, push_deal, push_over, push_penalty, push_stands, read_game};
-use riichi_hand::Wind;
+use riichi_hand::{Rules, Wind};
 use riichi_places::final_points;
 use riichi_table::*;
 use riichi_text::AnswerText;
@@ -16,7 +16,7 @@ fn by<T>(first: T, second: T, third: T, fourth: T) -> ByPlayer<T> {
 }
 
 fn names() -> Result<Names, Fail> {
-    let game = read_game(b"Anna Bo Cyd Dee").ok_or("names")?;
+    let game = read_game(Rules::One, b"Anna Bo Cyd Dee").ok_or("names")?;
     Ok(game.names)
 }
 

@@ -8,7 +8,7 @@ use std::test::Fail;
 
 /// The words behind `game` begin a game, and are answered so.
 fn begins(rt: &impl Abort, words: &str, answer: &str) -> Result<GameLine, Fail> {
-    let game = read_game(words.as_bytes()).ok_or("a game")?;
+    let game = read_game(Rules::One, words.as_bytes()).ok_or("a game")?;
     let mut text = AnswerText::new();
     push_begun(&mut text, &game.names, game.rules.start);
     assert_eq!(rt; text.as_str(), answer);
@@ -52,6 +52,16 @@ fn words_change_the_rules(rt: HostRuntime) -> Result<(), Fail> {
     assert_eq!(rt; game.rules, rules);
     assert_eq!(rt; game.session, Some(3));
     assert_eq!(rt; game.at, Some(12));
+    Ok(())
+}
+
+/// The rules for hands are the given ones where no word names them.
+#[test]
+fn given_rules(rt: HostRuntime) -> Result<(), Fail> {
+    let game = read_game(Rules::Two, b"table=league").ok_or("a game")?;
+    assert_eq!(rt; game.rules.hand, Rules::Two);
+    let game = read_game(Rules::Two, b"rules=1").ok_or("a game")?;
+    assert_eq!(rt; game.rules.hand, Rules::One);
     Ok(())
 }
 
@@ -103,10 +113,10 @@ fn lines_that_begin_no_game(rt: HostRuntime) -> Result<(), Fail> {
         "rules=3",
     ];
     for line in lines {
-        assert!(rt; read_game(line.as_bytes()).is_none());
+        assert!(rt; read_game(Rules::One, line.as_bytes()).is_none());
     }
-    assert!(rt; read_game(b"\xff Bo Cyd Dee").is_none());
-    assert!(rt; read_game(b"at=0").is_none());
+    assert!(rt; read_game(Rules::One, b"\xff Bo Cyd Dee").is_none());
+    assert!(rt; read_game(Rules::One, b"at=0").is_none());
     assert!(rt; MOST_BEGUN > 100);
     Ok(())
 }

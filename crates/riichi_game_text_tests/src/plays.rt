@@ -1,6 +1,7 @@
 //! Games that are played line by line, with the answer to each.
 use riichi_game::Progress;
 use riichi_game_text::*;
+use riichi_hand::Rules;
 use riichi_places::final_points;
 use riichi_table::Outcome;
 use riichi_text::AnswerText;
@@ -18,7 +19,7 @@ pub(crate) struct Play {
 impl Play {
     /// A game that these words begin.
     pub(crate) fn new(words: &str) -> Result<Play, Fail> {
-        let game = read_game(words.as_bytes()).ok_or("a game")?;
+        let game = read_game(Rules::One, words.as_bytes()).ok_or("a game")?;
         Ok(Play {
             game,
             progress: Progress::first(&game.rules),

@@ -1,0 +1,5 @@
+pub mod ReplyLemmas
+pub mod TextLemmas
+pub mod OneAnswer
+pub mod Outcomes
+pub mod AtHand

@@ -1,0 +1,57 @@
+-- A text of games so far: the game at hand, and how it ends where no line of it follows.
+use Rattle.std.specs.Prelude.{ℕ, List, Bool, true, false, not, ◌&&◌, Option, None, Some, if◌then◌else◌}
+use Rattle.riichi_game.specs.Games.{first_progress}
+use Rattle.riichi_places.specs.Finals.{finals_of}
+use Rattle.riichi_game_text.specs.Answers.{stands_text}
+use Rattle.riichi_game_text.specs.FinalTexts.{over_text}
+use Rattle.riichi_game_text.specs.GameLines.{GameSaid}
+use Rattle.desk_games.specs.Played.{GameSoFar, hold}
+use Rattle.desk_games.specs.declared.desk.GameDesk.{GameDesk}
+use Rattle.desk_games.specs.declared.desk.GameDesk.TheVariants as desk
+
+-- ---- where a game begins
+
+-- before the first deal of a game with these names and rules
+abbrev pub begun : GameSaid → GameSoFar
+begun said = record { names = said.names; rules = said.rules; progress = first_progress said.rules; is_held = false }
+
+-- behind a line `game`; where it is refused the game has no state
+abbrev pub begun_desk : Option GameSaid → GameDesk
+begun_desk None = desk.Refused
+begun_desk (Some said) = desk.Game (begun said)
+
+-- ---- where a line of it is refused
+
+-- its game is held; where no game has begun, or one without a state, there is none to hold
+abbrev pub held : GameDesk → GameDesk
+held desk.NoGame = desk.NoGame
+held desk.Refused = desk.Refused
+held (desk.Game game) = desk.Game (hold game)
+
+-- a line of the game was refused, the line `game` among them
+abbrev pub is_held : GameDesk → Bool
+is_held desk.NoGame = false
+is_held desk.Refused = true
+is_held (desk.Game game) = game.is_held
+
+-- the game at hand, where no line of it was refused
+abbrev pub open_game : GameDesk → Option GameSoFar
+open_game desk.NoGame = None
+open_game desk.Refused = None
+open_game (desk.Game game) = if game.is_held then None else Some game
+
+-- ---- where no line of it follows
+
+-- the places and final points of a game that is over; of any other the state, and of one with a refused line the last good state
+unfoldable pub end_text : GameSoFar → List ℕ
+end_text game =
+    let progress = game.progress in
+    if progress.is_over && not game.is_held
+    then over_text game.names progress.state.sticks (finals_of game.rules progress.state progress.penalties)
+    else stands_text progress.state
+
+-- what is told behind the last line of the game at hand: nothing where there is none, or none with a state
+abbrev pub end_of : GameDesk → Option (List ℕ)
+end_of desk.NoGame = None
+end_of desk.Refused = None
+end_of (desk.Game game) = Some (end_text game)

@@ -1,0 +1,84 @@
+-- Laws of texts of games.
+use Rattle.std.specs.Prelude.{◌≡◌, ℕ, List, [], ◌∷◌, ◌++◌, Bool, true, false, ◌||◌, Option, Some}
+use Rattle.std.specs.List.{AllByRecursion, filter_map, list_any}
+use Rattle.riichi_hand.specs.Rules.{Rules}
+use Rattle.riichi_table.specs.declared.outcome.Outcome.{Outcome}
+use Rattle.riichi_game.specs.Games.{first_progress, after_all}
+use Rattle.riichi_game_text.specs.GameLines.{GameSaid, game_of, hand_word}
+use Rattle.riichi_game_text.specs.TableWords.{IsHandRules}
+use Rattle.desk_lines.specs.declared.report.DeskReport.{DeskReport}
+use Rattle.desk_lines.specs.Telling.{is_refused}
+use Rattle.desk_games.specs.Played.{GameSoFar}
+use Rattle.desk_games.specs.Desks.{begun}
+use Rattle.desk_games.specs.Replies.{LineOfGame, Odd, Blank, Begins, Entry, seen_in, Reply, AreReplies}
+use Rattle.desk_games.specs.Texts.{AnswersLines}
+use Rattle.desk_games.specs.declared.desk.GameDesk.{GameDesk}
+use Rattle.desk_games.specs.declared.desk.GameDesk.TheVariants as desk
+
+-- ---- one answer
+
+-- lines behind a text of games have one list of answers, are counted in one way, and leave one text of games
+abbrev pub AnswersAreOne : Type 0
+AnswersAreOne = (is_numbered : Bool) (given : Rules) (first : GameDesk) (lines one other : List (List ℕ)) (count other_count : DeskReport) (last other_last : GameDesk)
+    → AnswersLines is_numbered given first lines one count last → AnswersLines is_numbered given first lines other other_count other_last
+    → (one ≡ other) × (count ≡ other_count) × (last ≡ other_last)
+
+-- ---- how far a game has come
+
+abbrev pub is_begin : LineOfGame → Bool
+is_begin Odd = false
+is_begin Blank = false
+is_begin (Begins words) = true
+is_begin Entry = false
+
+-- none of the lines begins a game
+abbrev pub BeginNone : List (List ℕ) → Type 0
+BeginNone lines = AllByRecursion (λ line. is_begin (seen_in line) ≡ false) lines
+
+-- the outcomes of the accepted lines
+abbrev pub outcomes_in : List Reply → List Outcome
+outcomes_in replies = filter_map (λ reply. reply.outcome) replies
+
+abbrev pub refuses : Reply → Bool
+refuses reply = is_refused reply.kind
+
+-- by lines of which none begins another game a game comes as far as the outcomes of the accepted ones bring it, one after another
+abbrev pub GoesOnByOutcomes : Type 0
+GoesOnByOutcomes = (given : Rules) (game : GameSoFar) (lines : List (List ℕ)) (replies : List Reply) (last : GameDesk) → BeginNone lines
+    → AreReplies given (desk.Game game) lines replies last
+    → last ≡ desk.Game (record {
+      names = game.names;
+      rules = game.rules;
+      progress = after_all game.progress game.rules (outcomes_in replies);
+      is_held = game.is_held || list_any refuses replies;
+    })
+
+-- behind a refused line no line of the game is accepted
+abbrev pub HeldTakesNone : Type 0
+HeldTakesNone = (given : Rules) (game : GameSoFar) (lines : List (List ℕ)) (replies : List Reply) (last : GameDesk) → BeginNone lines
+    → game.is_held ≡ true → AreReplies given (desk.Game game) lines replies last → outcomes_in replies ≡ []
+
+-- The game began with one of the lines, and none behind that begins another; it has the names and the rules that the line says, and has
+-- come as far as the outcomes of the accepted lines behind it bring it.
+pub record IsAtHand (given : Rules) (lines : List (List ℕ)) (game : GameSoFar) : Type 0 where
+  pub front : List (List ℕ)
+  pub line : List ℕ
+  pub behind : List (List ℕ)
+  pub parts : lines ≡ front ++ line ∷ behind
+  pub words : List (List ℕ)
+  pub begins : seen_in line ≡ Begins words
+  pub others : BeginNone behind
+  pub hand : Option Rules
+  pub named : IsHandRules given (hand_word words) hand
+  pub said : GameSaid
+  pub says : game_of hand words ≡ Some said
+  pub replies : List Reply
+  pub are : AreReplies given (desk.Game (begun said)) behind replies (desk.Game game)
+  pub names : game.names ≡ said.names
+  pub rules : game.rules ≡ said.rules
+  pub progress : game.progress ≡ after_all (first_progress said.rules) said.rules (outcomes_in replies)
+
+-- the game that is at hand behind the lines of a text
+abbrev pub GameComesFromItsLines : Type 0
+GameComesFromItsLines = (is_numbered : Bool) (given : Rules) (lines answers : List (List ℕ)) (report : DeskReport) (game : GameSoFar)
+    → AnswersLines is_numbered given desk.NoGame lines answers report (desk.Game game) → IsAtHand given lines game

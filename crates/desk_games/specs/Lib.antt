@@ -1,0 +1,6 @@
+pub mod Played
+pub mod Desks
+pub mod Replies
+pub mod Texts
+pub mod Streams
+pub mod Laws

@@ -1,0 +1,133 @@
+-- What each line of a text of games comes to.
+use Rattle.std.specs.Prelude.{◌≡◌, ℕ, List, [], ◌∷◌, codes, Option, None, Some, Result, Ok, Err, if◌then◌else◌}
+use Rattle.std.specs.Str.{bytes_eq}
+use Rattle.riichi_hand.specs.Rules.{Rules}
+use Rattle.riichi_table.specs.Players.{of_player}
+use Rattle.riichi_table.specs.declared.player.ByPlayer.{ByPlayer}
+use Rattle.riichi_table.specs.declared.outcome.Outcome.{Outcome}
+use Rattle.riichi_table.specs.declared.outcome.Outcome.TheVariants.{Penalty, End}
+use Rattle.riichi_game.specs.Games.{after_one}
+use Rattle.riichi_game.specs.declared.game.Progress.{Progress}
+use Rattle.riichi_game_text.specs.Answers.{begun_text, deal_text, penalty_text}
+use Rattle.riichi_game_text.specs.Entries.{entry_of, is_odd}
+use Rattle.riichi_game_text.specs.FaultTexts.{refused_text}
+use Rattle.riichi_game_text.specs.GameLines.{GameSaid, game_of, hand_word}
+use Rattle.riichi_game_text.specs.TableWords.{IsHandRules}
+use Rattle.riichi_game_text.specs.Words.{said_in}
+use Rattle.riichi_game_text.specs.declared.fault.GameFault.{GameFault}
+use Rattle.riichi_game_text.specs.declared.fault.GameFault.TheVariants.{G1, G2, G3, G14}
+use Rattle.desk_lines.specs.declared.line_kind.LineKind.{LineKind}
+use Rattle.desk_lines.specs.declared.line_kind.LineKind.TheVariants.{NoRecord, Answered, Refused}
+use Rattle.desk_games.specs.Played.{GameSoFar}
+use Rattle.desk_games.specs.Desks.{begun_desk, held, is_held, end_of}
+use Rattle.desk_games.specs.declared.desk.GameDesk.{GameDesk}
+use Rattle.desk_games.specs.declared.desk.GameDesk.TheVariants as desk
+
+-- ---- what a line is, before any game is looked at
+
+pub data LineOfGame : Type 0 where
+  Odd : LineOfGame
+  Blank : LineOfGame
+  Begins : List (List ℕ) → LineOfGame
+  Entry : LineOfGame
+
+abbrev pub line_by : List (List ℕ) → LineOfGame
+line_by [] = Blank
+line_by (first ∷ words) = if bytes_eq first (codes "game") then Begins words else Entry
+
+-- A line may be odd. Else it has no words, or its first word is `game` and these words stand behind it, or another one.
+abbrev pub seen_in : List ℕ → LineOfGame
+seen_in line = if is_odd line then Odd else line_by (said_in line)
+
+-- ---- what a line comes to
+
+-- How the game before a line ended, where the line begins another; the answer to the line itself, where it has one; the outcome that
+-- was accepted, where it is one; how the line counts; and the text of games behind it.
+pub record Reply : Type 0 where
+  pub ended : Option (List ℕ)
+  pub answer : Option (List ℕ)
+  pub outcome : Option Outcome
+  pub kind : LineKind
+  pub desk : GameDesk
+
+-- a line without words
+abbrev pub blank_reply : GameDesk → Reply
+blank_reply now = record { ended = None; answer = None; outcome = None; kind = NoRecord; desk = now }
+
+-- a line is refused, and holds its game; behind a refused line of the same game that is its fault, whatever it says
+abbrev pub refusal : GameDesk → GameFault → Reply
+refusal now fault = record {
+  ended = None;
+  answer = Some (refused_text (if is_held now then G14 else fault));
+  outcome = None;
+  kind = Refused;
+  desk = held now;
+}
+
+-- a line `game` ends the game before it
+abbrev pub begin_reply : GameDesk → Option GameSaid → Reply
+begin_reply now None = record {
+  ended = end_of now;
+  answer = Some (refused_text G3);
+  outcome = None;
+  kind = Refused;
+  desk = begun_desk None;
+}
+begin_reply now (Some said) = record {
+  ended = end_of now;
+  answer = Some (begun_text said.names said.rules.start);
+  outcome = None;
+  kind = Answered;
+  desk = begun_desk (Some said);
+}
+
+-- the answer to an outcome by how far the game had come before it and has come after it: `end` has none of its own
+abbrev pub outcome_answer : ByPlayer (List ℕ) → Progress → Progress → Outcome → Option (List ℕ)
+outcome_answer names before after (Penalty player points) = Some (penalty_text (of_player names player) points)
+outcome_answer names before after End = None
+outcome_answer names before after other = Some (deal_text before.state after.state.points)
+
+-- an outcome brings the game on
+abbrev pub accept : GameSoFar → Outcome → Reply
+accept game outcome =
+    let after = after_one game.progress game.rules outcome in record {
+      ended = None;
+      answer = outcome_answer game.names game.progress after outcome;
+      outcome = Some outcome;
+      kind = Answered;
+      desk = desk.Game (record game { progress = after });
+    }
+
+abbrev pub entry_reply : GameSoFar → Result Outcome GameFault → Reply
+entry_reply game (Err fault) = refusal (desk.Game game) fault
+entry_reply game (Ok outcome) = accept game outcome
+
+abbrev pub game_reply : GameSoFar → List ℕ → Reply
+game_reply game line =
+    if game.is_held then refusal (desk.Game game) G14
+    else entry_reply game (entry_of game.names game.progress game.rules line)
+
+-- a line that isn't odd and has a first word other than `game`
+abbrev pub other_reply : GameDesk → List ℕ → Reply
+other_reply desk.NoGame line = refusal desk.NoGame G2
+other_reply desk.Refused line = refusal desk.Refused G2
+other_reply (desk.Game game) line = game_reply game line
+
+-- By what a line is: of a line `game` the words say the game, and the rules for hands, where these aren't the given ones.
+abbrev pub IsReplyTo : Rules → GameDesk → LineOfGame → List ℕ → Reply → Type 0
+IsReplyTo given now Odd line reply = reply ≡ refusal now G1
+IsReplyTo given now Blank line reply = reply ≡ blank_reply now
+IsReplyTo given now (Begins words) line reply =
+    (hand : Option Rules) × IsHandRules given (hand_word words) hand × (reply ≡ begin_reply now (game_of hand words))
+IsReplyTo given now Entry line reply = reply ≡ other_reply now line
+
+-- what a line comes to behind a text of games, under the given rules for hands
+abbrev pub IsReply : Rules → GameDesk → List ℕ → Reply → Type 0
+IsReply given now line reply = IsReplyTo given now (seen_in line) line reply
+
+-- what lines come to, one after another, and the text of games behind the last
+abbrev pub AreReplies : Rules → GameDesk → List (List ℕ) → List Reply → GameDesk → Type 0
+AreReplies given now [] replies last = (replies ≡ []) × (last ≡ now)
+AreReplies given now (line ∷ lines) replies last =
+    (reply : Reply) × (others : List Reply) × IsReply given now line reply
+    × (replies ≡ reply ∷ others) × AreReplies given reply.desk lines others last

@@ -1,0 +1,103 @@
+//! A text of games so far.
+ghost use Rattle.std.specs.Prelude.{◌≡◌, ◌++◌, option_map};
+ghost use Rattle.riichi_game_text.specs.declared.fault.GameFault.TheVariants.{G2};
+ghost use Rattle.desk_lines.specs.Outbox.{HasRoomForLine, HasRoomForText};
+ghost use Rattle.desk_lines.specs.Telling.{with_line_feed};
+ghost use Rattle.desk_games.specs.Desks as spec;
+ghost use Rattle.desk_games.specs.Replies.{refusal, other_reply};
+ghost use Rattle.desk_games.specs.Texts.{Puts};
+
+use crate::game_at_hand::GameAtHand;
+use crate::puts::put_refused;
+use desk_lines::{LineKind, Outbox};
+use riichi_game_text::GameFault;
+
+/// A text of games so far.
+#[derive(Drop)]
+pub enum GameDesk {
+    /// No game has begun.
+    NoGame,
+    /// The last line `game` was refused, and so is each line behind it.
+    Refused,
+    /// A game has begun.
+    Game(GameAtHand),
+}
+
+impl GameDesk {
+    /// The game at hand, where no line of it was refused.
+    pub fn game(&self) -> Option<&GameAtHand>
+        ensures { option_map (λ game. game.now) result ≡ spec.open_game self.now }
+    {
+        match self {
+            GameDesk::Game(game) if !game.is_held() => Some(game),
+            _ => None,
+        }
+    }
+
+    /// Whether a line of the game at hand was refused, the line `game` among them.
+    fn is_held(&self) -> bool
+        ensures { result ≡ spec.is_held self.now }
+    {
+        match self {
+            GameDesk::NoGame => false,
+            GameDesk::Refused => true,
+            GameDesk::Game(game) => game.is_held(),
+        }
+    }
+
+    /// From now on each line of the game at hand is refused.
+    fn hold(&mut self)
+        ensures { self.new ≡ spec.held self.old }
+    {
+        if let GameDesk::Game(game) = self {
+            game.hold();
+        }
+    }
+
+    /// Puts what is told behind the last line of the game at hand.
+    pub(crate) fn put_end(&self, outbox: &mut Outbox)
+        requires room { HasRoomForLine outbox.old }
+        ensures put { outbox.new.bytes.items
+            ≡ outbox.old.bytes.items ++ with_line_feed (spec.end_of self.now) }
+        ensures room { HasRoomForText outbox.new }
+    {
+        if let GameDesk::Game(game) = self {
+            outbox.text.clear();
+            game.push_end(&mut outbox.text);
+            outbox.put_text();
+        }
+    }
+
+    /// Takes a line that has this fault by itself, and puts its answer.
+    pub(crate) fn refuse(
+        &mut self,
+        front: Option<u64>,
+        fault: GameFault,
+        outbox: &mut Outbox,
+    ) -> LineKind
+        requires { HasRoomForText outbox.old }
+        ensures { Puts front (refusal self.old fault) result
+            outbox.old.bytes.items outbox.new.bytes.items self.new }
+    {
+        let told = if self.is_held() {
+            GameFault::G14
+        } else {
+            fault
+        };
+        put_refused(front, told, outbox);
+        self.hold();
+        LineKind::Refused
+    }
+
+    /// Takes a line that isn't odd and has a first word other than `game`, and puts its answer.
+    pub(crate) fn take(&mut self, front: Option<u64>, line: &[u8], outbox: &mut Outbox) -> LineKind
+        requires { HasRoomForText outbox.old }
+        ensures { Puts front (other_reply self.old line.now) result
+            outbox.old.bytes.items outbox.new.bytes.items self.new }
+    {
+        match self {
+            GameDesk::Game(game) => game.take(front, line, outbox),
+            _ => self.refuse(front, GameFault::G2, outbox),
+        }
+    }
+}

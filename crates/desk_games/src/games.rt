@@ -1,0 +1,125 @@
+//! Answers the lines of a text of games one by one.
+ghost use Rattle.std.specs.Prelude.{◌≡◌, Option};
+ghost use Rattle.riichi_game_text.specs.Words.{said_in};
+ghost use Rattle.desk_lines.specs.Outbox.{HasRoomForLine};
+ghost use Rattle.desk_games.specs.declared.desk.GameDesk.TheVariants.{NoGame};
+ghost use Rattle.desk_games.specs.Replies.{Reply, IsReply, IsReplyTo, Begins};
+ghost use Rattle.desk_games.specs.Texts.{Puts};
+ghost use Rattle.desk_games.specs.Texts as spec;
+
+use crate::desk::GameDesk;
+use crate::game_at_hand::GameAtHand;
+use crate::puts::{put_begun, put_refused};
+use desk_lines::{LineKind, Outbox, Teller};
+use riichi_game_text::{GameFault, is_odd, next_said, read_game};
+use riichi_hand::Rules;
+use riichi_shape::RowSource;
+use std::alloc::AllocError;
+
+/// The teller of a text of games. It takes no memory.
+#[derive(Drop)]
+pub struct Games {
+    /// The rules for hands of a game whose line `game` names none.
+    given: Rules,
+    /// Each answer stands behind the number of its line.
+    is_numbered: bool,
+    desk: GameDesk,
+}
+
+impl Games {
+    /// Before the first line.
+    pub fn new(given: Rules, is_numbered: bool) -> Games
+        ensures given { result.given ≡ given }
+        ensures numbered { result.is_numbered ≡ is_numbered }
+        ensures desk { result.desk ≡ NoGame }
+    {
+        Games {
+            given,
+            is_numbered,
+            desk: GameDesk::NoGame,
+        }
+    }
+
+    /// The text of games so far.
+    pub fn into_desk(self) -> GameDesk
+        ensures { result ≡ self.desk }
+    {
+        self.desk
+    }
+
+    /// Takes the next line, and puts its answer.
+    fn take(&mut self, front: Option<u64>, line: &[u8], outbox: &mut Outbox) -> LineKind
+        requires { HasRoomForLine outbox.old }
+        ensures given { (self.new.given ≡ self.old.given)
+            × (self.new.is_numbered ≡ self.old.is_numbered) }
+        ensures reply { (reply : Reply) × IsReply self.old.given self.old.desk line.now reply
+            × Puts front reply result outbox.old.bytes.items outbox.new.bytes.items self.new.desk }
+    {
+        if is_odd(line) {
+            return self.desk.refuse(front, GameFault::G1, outbox);
+        }
+        match next_said(line) {
+            None => LineKind::NoRecord,
+            Some((first, words)) if first == b"game".as_slice() => self.begin(front, words, outbox),
+            Some(_) => self.desk.take(front, line, outbox),
+        }
+    }
+
+    /// Takes a line `game` with these words behind it, and puts its answer behind the end of the game before it.
+    fn begin(&mut self, front: Option<u64>, words: &[u8], outbox: &mut Outbox) -> LineKind
+        requires { HasRoomForLine outbox.old }
+        ensures given { (self.new.given ≡ self.old.given)
+            × (self.new.is_numbered ≡ self.old.is_numbered) }
+        ensures reply { (reply : Reply)
+            × IsReplyTo self.old.given self.old.desk (Begins (said_in words.now)) words.now reply
+            × Puts front reply result outbox.old.bytes.items outbox.new.bytes.items self.new.desk }
+    {
+        self.desk.put_end(outbox);
+        match read_game(self.given, words) {
+            None => {
+                self.desk = GameDesk::Refused;
+                put_refused(front, GameFault::G3, outbox);
+                LineKind::Refused
+            }
+            Some(line) => {
+                self.desk = GameDesk::Game(GameAtHand::new(&line));
+                put_begun(front, &line, outbox);
+                LineKind::Answered
+            }
+        }
+    }
+}
+
+/// The number of a line, where answers are numbered.
+fn number_if(is_numbered: bool, number: u64) -> Option<u64>
+    ensures { result ≡ spec.number_if is_numbered number }
+{
+    if is_numbered { Some(number) } else { None }
+}
+
+impl Teller for Games {
+    ghost use Rattle.std.specs.Prelude.{List, ℕ};
+    ghost use Rattle.desk_games.specs.Texts.{AnswersLines};
+
+    ghost Answer = { List ℕ };
+
+    ghost written = { λ text. text };
+
+    ghost most = { 4096 };
+
+    ghost tells = { λ first now lines told report. (now.given ≡ first.given) × (now.is_numbered ≡ first.is_numbered)
+        × AnswersLines first.is_numbered first.given first.desk lines told report now.desk };
+
+    ghost wants_memory = { λ _ _. ⊥ };
+
+    fn tell<S: RowSource>(
+        &mut self,
+        number: u64,
+        line: &[u8],
+        outbox: &mut Outbox,
+        _source: &mut S,
+    ) -> Result<LineKind, AllocError> {
+        let front = number_if(self.is_numbered, number);
+        Ok(self.take(front, line, outbox))
+    }
+}

@@ -1,0 +1,17 @@
+//! Laws over texts of games.
+ghost use Rattle.desk_games.specs.Laws.{AnswersAreOne, GameComesFromItsLines, GoesOnByOutcomes, HeldTakesNone};
+
+/// What a text of games is answered follows from its lines.
+#[tactic(auto, using(crate::proofs::OneAnswer::answers_are_one))]
+pub fn a_text_has_one_answer()
+    ensures { AnswersAreOne }
+{}
+
+/// How far a game has come follows from its line `game` and the outcomes of its accepted lines, one after another: a line behind a
+/// refused one adds none.
+#[tactic(auto, using(crate::proofs::Outcomes::goes_on_by_outcomes, crate::proofs::Outcomes::held_takes_none, crate::proofs::AtHand::game_comes_from_its_lines))]
+pub fn a_game_comes_from_its_lines()
+    ensures outcomes { GoesOnByOutcomes }
+    ensures held { HeldTakesNone }
+    ensures whole { GameComesFromItsLines }
+{}

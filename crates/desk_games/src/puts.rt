@@ -1,0 +1,97 @@
+//! Answers to the lines of a game on their way to the writer.
+ghost use Rattle.std.specs.Prelude.{◌≡◌, ◌++◌, ◌≤◌, Some};
+ghost use Rattle.arrayvec.specs.ArrayString.{array_string_len};
+ghost use Rattle.riichi_table.specs.Players.{of_player};
+ghost use Rattle.riichi_game_text.specs.Answers.{begun_text, deal_text, penalty_text};
+ghost use Rattle.riichi_game_text.specs.FaultTexts.{refused_text};
+ghost use Rattle.riichi_game_text.specs.Names.{names_in};
+ghost use Rattle.desk_lines.specs.Outbox.{HasRoomForText};
+ghost use Rattle.desk_lines.specs.Telling.{with_line_feed};
+ghost use Rattle.desk_games.specs.Replies.{outcome_answer};
+ghost use Rattle.desk_games.specs.Texts.{behind_front, front_text};
+
+use desk_lines::Outbox;
+use riichi_game::Progress;
+use riichi_game_text::{
+    GameFault, GameLine, Names, push_begun, push_deal, push_penalty, push_refused,
+};
+use riichi_table::{ByPlayer, GameState, Outcome, Player};
+use riichi_text::{AnswerText, MOST_U64, push_number};
+
+/// The bytes of the longest number of a line, and of what parts it from the answer.
+const MOST_FRONT: usize = MOST_U64 + ":".len();
+
+/// Begins the text of an answer: by the number of its line, where that is told.
+fn begin_text(front: Option<u64>, text: &mut AnswerText)
+    ensures bytes { text.new.bytes ≡ front_text front }
+    ensures len { array_string_len text.new ≤ MOST_FRONT }
+{
+    text.clear();
+    if let Some(number) = front {
+        push_number(text, number);
+        text.push_str(":");
+    }
+}
+
+/// Puts the answer to a line that is refused.
+pub(crate) fn put_refused(front: Option<u64>, fault: GameFault, outbox: &mut Outbox)
+    requires { HasRoomForText outbox.old }
+    ensures { outbox.new.bytes.items ≡ outbox.old.bytes.items
+        ++ with_line_feed (Some (front_text front ++ refused_text fault)) }
+{
+    begin_text(front, &mut outbox.text);
+    push_refused(&mut outbox.text, &fault);
+    outbox.put_text();
+}
+
+/// Puts the answer to a line that begins a game.
+pub(crate) fn put_begun(front: Option<u64>, line: &GameLine, outbox: &mut Outbox)
+    requires { HasRoomForText outbox.old }
+    ensures { outbox.new.bytes.items ≡ outbox.old.bytes.items
+        ++ with_line_feed (Some (front_text front ++ begun_text (names_in line.now.names) line.now.rules.start)) }
+{
+    begin_text(front, &mut outbox.text);
+    push_begun(&mut outbox.text, &line.names, line.rules.start);
+    outbox.put_text();
+}
+
+/// Puts the answer to an outcome, where it has one of its own.
+pub(crate) fn put_outcome(
+    front: Option<u64>,
+    names: &Names,
+    before: &Progress,
+    after: &Progress,
+    outcome: &Outcome,
+    outbox: &mut Outbox,
+)
+    requires { HasRoomForText outbox.old }
+    ensures { let answer = outcome_answer (names_in names.now) before.now after.now outcome.now in
+        outbox.new.bytes.items
+        ≡ outbox.old.bytes.items ++ with_line_feed (behind_front (front_text front) answer) }
+{
+    match outcome {
+        Outcome::End => {}
+        Outcome::Penalty { player, points } => put_penalty(front, names, *player, *points, outbox),
+        _ => put_deal(front, &before.state, &after.state.points, outbox),
+    }
+}
+
+fn put_penalty(front: Option<u64>, names: &Names, player: Player, points: u32, outbox: &mut Outbox)
+    requires { HasRoomForText outbox.old }
+    ensures { outbox.new.bytes.items ≡ outbox.old.bytes.items
+        ++ with_line_feed (Some (front_text front ++ penalty_text (of_player (names_in names.now) player) points)) }
+{
+    begin_text(front, &mut outbox.text);
+    push_penalty(&mut outbox.text, &names.get(player), points);
+    outbox.put_text();
+}
+
+fn put_deal(front: Option<u64>, before: &GameState, after: &ByPlayer<i32>, outbox: &mut Outbox)
+    requires { HasRoomForText outbox.old }
+    ensures { outbox.new.bytes.items ≡ outbox.old.bytes.items
+        ++ with_line_feed (Some (front_text front ++ deal_text before.now after.now)) }
+{
+    begin_text(front, &mut outbox.text);
+    push_deal(&mut outbox.text, before, after);
+    outbox.put_text();
+}

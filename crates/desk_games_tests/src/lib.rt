@@ -1,0 +1,17 @@
+//! Tests of `desk_games` by what it exports: whole texts of games and their answers.
+//!
+//! They stand apart from the library, since a check of a crate with its tests proves the crate once more.
+#![tactic(auto)]
+
+#[cfg(test)]
+mod desks;
+#[cfg(test)]
+mod facts;
+#[cfg(test)]
+mod failing;
+#[cfg(test)]
+mod lines;
+#[cfg(test)]
+mod pages;
+#[cfg(test)]
+mod worked;
