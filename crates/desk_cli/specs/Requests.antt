@@ -2,6 +2,7 @@
 use Rattle.std.specs.Prelude.{◌≡◌, ◌⊎◌, ℕ, Bool, true, false, not, ◌||◌, List, [], ◌∷◌, Option, None, Some, map, drop, option_map, option_and_then, unwrap_or, slice_get, codes, if◌then◌else◌}
 use Rattle.std.specs.Borrow.{Bor}
 use Rattle.std.specs.Option.{option_map_or}
+use Rattle.std.specs.Str.{bytes_eq}
 use Rattle.std.specs.Str.Parse.{ParsesUnsigned}
 use Rattle.std.specs.declared.num.ParseIntError.{ParseIntError}
 use Rattle.clap.specs.Matches.{ReadsOne, first_value, found_of, matched_of, one_text, raw_values, subcommand_name_of}
@@ -18,6 +19,7 @@ use Rattle.desk_cli.specs.declared.request.Form.TheVariants as forms
 use Rattle.desk_cli.specs.declared.request.Lines.{Lines}
 use Rattle.desk_cli.specs.declared.request.Lines.TheVariants as sources
 use Rattle.desk_cli.specs.declared.request.Manner.{Manner}
+use Rattle.desk_cli.specs.declared.request.NeedRequest.{NeedRequest}
 use Rattle.desk_cli.specs.declared.request.Request.{Request}
 use Rattle.desk_cli.specs.declared.request.Request.TheVariants as requests
 
@@ -158,6 +160,59 @@ AsksForScore found (Some (requests.Score files workers rules is_numbered is_quie
 AsksForScore found (Some (requests.UnknownRules word)) = IsUnknown found word.now
 AsksForScore found (Some other) = ⊥
 
+-- texts of games: those of files, or of standard input where none is named
+abbrev pub AsksForGames : Found → Request → Type 0
+AsksForGames found (requests.Games files manner) =
+    (option_map (λ named. texts named.now) files ≡ words_under found (codes "FILE")) × NamesRules (rules_option found) manner.rules
+    × IsFlag found (codes "number") manner.is_numbered
+AsksForGames found (requests.UnknownRules word) = IsUnknown found word.now
+AsksForGames found other = ⊥
+
+-- ---- what a player needs
+
+abbrev pub place_of : List ℕ → Option ℕ
+place_of word =
+    if bytes_eq word (codes "1") then Some 1
+    else if bytes_eq word (codes "2") then Some 2
+    else if bytes_eq word (codes "3") then Some 3
+    else if bytes_eq word (codes "4") then Some 4
+    else None
+
+-- the words of a question: a name, the word of a place, and a file; the first place where none is said
+pub record Asked : Type 0 where
+  pub name : List ℕ
+  pub place : List ℕ
+  pub file : List ℕ
+
+abbrev pub asked_in : List (List ℕ) → Option Asked
+asked_in (name ∷ file ∷ []) = Some (record { name = name; place = codes "1"; file = file })
+asked_in (name ∷ place ∷ file ∷ []) = Some (record { name = name; place = place; file = file })
+asked_in others = None
+
+abbrev pub asked_of : Found → Option Asked
+asked_of found = option_and_then asked_in (words_under found (codes "WORD"))
+
+-- A player, a place from 1 to 4 and a file, with the bets of others and the rules for hands.
+pub record IsNeed (found : Found) (need : NeedRequest) : Type 0 where
+  pub asked : Asked
+  pub words : asked_of found ≡ Some asked
+  pub name : need.name.now ≡ asked.name
+  pub place : place_of asked.place ≡ Some need.place
+  pub file : need.file.now ≡ asked.file
+  pub riichi : option_map (λ names. names.now) need.riichi ≡ first_value found (codes "riichi")
+  pub rules : NamesRules (rules_option found) need.rules
+
+-- a word stands where a place should, and says none
+abbrev pub IsNoPlace : Found → List ℕ → Type 0
+IsNoPlace found word = (option_map (λ asked. asked.place) (asked_of found) ≡ Some word) × (place_of word ≡ None)
+
+abbrev pub AsksForNeed : Found → Option Request → Type 0
+AsksForNeed found None = asked_of found ≡ None
+AsksForNeed found (Some (requests.Need need)) = IsNeed found need
+AsksForNeed found (Some (requests.UnknownPlace word)) = IsNoPlace found word.now
+AsksForNeed found (Some (requests.UnknownRules word)) = IsUnknown found word.now
+AsksForNeed found (Some other) = ⊥
+
 abbrev pub IsSome : (Request → Type 0) → Option Request → Type 0
 IsSome Is None = ⊥
 IsSome Is (Some request) = Is request
@@ -168,6 +223,8 @@ IsAsked commands.Line found asked = IsSome (AsksForLines found (IsLine found)) a
 IsAsked commands.Explain found asked = IsSome (AsksForLines found (IsExplain found)) asked
 IsAsked commands.Replay found asked = AsksForReplay found asked
 IsAsked commands.Score found asked = AsksForScore found asked
+IsAsked commands.Game found asked = IsSome (AsksForGames found) asked
+IsAsked commands.Need found asked = AsksForNeed found asked
 IsAsked commands.HelpCodes found asked = asked ≡ Some requests.HelpCodes
 IsAsked commands.HelpRules found asked = asked ≡ Some requests.HelpRules
 IsAsked commands.HelpYaku found asked = asked ≡ Some requests.HelpYaku

@@ -12,13 +12,15 @@ pub enum CommandName {
     Explain,
     Replay,
     Score,
+    Game,
+    Need,
     HelpCodes,
     HelpRules,
     HelpYaku,
 }
 
 impl CommandName {
-    const ALL: [CommandName; 10] = [
+    const ALL: [CommandName; 12] = [
         CommandName::Win,
         CommandName::Waits,
         CommandName::Shape,
@@ -26,6 +28,8 @@ impl CommandName {
         CommandName::Explain,
         CommandName::Replay,
         CommandName::Score,
+        CommandName::Game,
+        CommandName::Need,
         CommandName::HelpCodes,
         CommandName::HelpRules,
         CommandName::HelpYaku,
@@ -46,6 +50,8 @@ impl CommandName {
             CommandName::Explain => "explain",
             CommandName::Replay => "replay",
             CommandName::Score => "score",
+            CommandName::Game => "game",
+            CommandName::Need => "need",
             CommandName::HelpCodes => "help-codes",
             CommandName::HelpRules => "help-rules",
             CommandName::HelpYaku => "help-yaku",

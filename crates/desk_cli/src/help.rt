@@ -114,3 +114,30 @@ Example:
 Exit status:
 "
 );
+
+pub(crate) const GAME_HELP: &str = with_statuses!(
+    "\
+Example:
+  riichi_desk game evening.game
+  riichi_desk game --rules 1+red-fives < evening.game
+
+A game is typed as it is played, a line for each deal:
+  game Anna Bo Cyd Dee
+  ron Bo from Cyd 1.30
+  draw ready Anna,Bo riichi Anna
+  tsumo Dee 2.30
+On a terminal each line is answered at once; Control-D ends the text.
+
+Exit status:
+"
+);
+
+pub(crate) const NEED_HELP: &str = with_statuses!(
+    "\
+Example:
+  riichi_desk need Cyd evening.game
+  riichi_desk need Cyd 2 evening.game --riichi Anna,Bo
+
+Exit status:
+"
+);

@@ -1,5 +1,5 @@
 //! What the words of a command line ask for.
-ghost use Rattle.std.specs.Prelude.{◌≡◌, None, Some, IfOk, IfErr, codes, option_map};
+ghost use Rattle.std.specs.Prelude.{◌≡◌, None, Some, IfOk, IfErr, MatchOption, codes, option_map};
 ghost use Rattle.clap.specs.Matches.{found_of};
 ghost use Rattle.riichi_hand.specs.RulesText.{NamesRules};
 ghost use Rattle.desk_cli.specs.declared.command.CommandName.{CommandName};
@@ -31,6 +31,16 @@ pub enum Request<'m, 'a> {
     HelpYaku,
     /// The answers to the script of this file.
     Replay(&'a str),
+    /// The answers to texts of games, each by itself.
+    Games {
+        /// The files; standard input where there are none, and for `-`.
+        files: Option<&'m [&'a str]>,
+        manner: GameManner,
+    },
+    /// What a player needs.
+    Need(NeedRequest<'a>),
+    /// A place that there isn't.
+    UnknownPlace(&'a str),
     /// The answers to the record lines of files, each a table, by so many workers.
     Score {
         files: &'m [&'a str],
@@ -41,6 +51,28 @@ pub enum Request<'m, 'a> {
         /// Whether it isn't to be shown how far the answers are.
         is_quiet: bool,
     },
+}
+
+/// How texts of games are answered.
+#[derive(Clone, Copy)]
+pub struct GameManner {
+    /// The rules for hands of games that name none.
+    pub rules: Rules,
+    /// Whether each answer stands behind the number of its line.
+    pub is_numbered: bool,
+}
+
+/// What a player needs for a place in the next deal of the last game of a file.
+#[derive(Clone, Copy, Debug)]
+pub struct NeedRequest<'a> {
+    pub name: &'a str,
+    /// From 1 to 4.
+    pub place: u8,
+    pub file: &'a str,
+    /// The names of others who bet in the deal, with commas between them.
+    pub riichi: Option<&'a str>,
+    /// The rules for hands of games that name none.
+    pub rules: Rules,
 }
 
 /// How record lines are answered.
@@ -110,6 +142,8 @@ fn command_request<'m, 'a>(
         CommandName::Explain => Some(explain_request(words)),
         CommandName::Replay => replay_request(words),
         CommandName::Score => score_request(words),
+        CommandName::Game => Some(games_request(words)),
+        CommandName::Need => need_request(words),
         CommandName::HelpCodes => Some(Request::HelpCodes),
         CommandName::HelpRules => Some(Request::HelpRules),
         CommandName::HelpYaku => Some(Request::HelpYaku),
@@ -188,6 +222,101 @@ fn score_request<'m, 'a>(words: &'m ArgMatches<'a>) -> Option<Request<'m, 'a>>
         },
         Err(word) => Request::UnknownRules(word),
     })
+}
+
+fn games_request<'m, 'a>(words: &'m ArgMatches<'a>) -> Request<'m, 'a>
+    ensures { spec.AsksForGames (found_of words.now) result }
+{
+    match rules_in(words) {
+        Ok(rules) => Request::Games {
+            files: words.get_strs("FILE"),
+            manner: GameManner {
+                rules,
+                is_numbered: words.get_flag("number"),
+            },
+        },
+        Err(word) => Request::UnknownRules(word),
+    }
+}
+
+fn need_request<'m, 'a>(words: &'m ArgMatches<'a>) -> Option<Request<'m, 'a>>
+    ensures { spec.AsksForNeed (found_of words.now) result }
+{
+    let asked = asked_in(words.get_strs("WORD")?)?;
+    Some(match place_of(asked.place) {
+        None => Request::UnknownPlace(asked.place),
+        Some(place) => need_of(words, &asked, place),
+    })
+}
+
+/// The words of a question.
+#[derive(Drop)]
+struct Asked<'a> {
+    name: &'a str,
+    place: &'a str,
+    file: &'a str,
+}
+
+/// A name, a place and a file; the first place where none is said, and none where the words are neither two nor three.
+fn asked_in<'a>(words: &[&'a str]) -> Option<Asked<'a>>
+    ensures { MatchOption result (spec.asked_in (spec.texts words.now) ≡ None)
+        (λ asked. spec.asked_in (spec.texts words.now) ≡ Some (record {
+          name = asked.name.now;
+          place = asked.place.now;
+          file = asked.file.now;
+        })) }
+{
+    match words {
+        [name, file] => Some(Asked {
+            name: *name,
+            place: "1",
+            file: *file,
+        }),
+        [name, place, file] => Some(Asked {
+            name: *name,
+            place: *place,
+            file: *file,
+        }),
+        _ => None,
+    }
+}
+
+fn need_of<'m, 'a>(words: &'m ArgMatches<'a>, asked: &Asked<'a>, place: u8) -> Request<'m, 'a>
+    requires words { spec.asked_of (found_of words.now) ≡ Some (record {
+      name = asked.now.name.now;
+      place = asked.now.place.now;
+      file = asked.now.file.now;
+    }) }
+    requires place { spec.place_of asked.now.place.now ≡ Some place }
+    ensures { spec.AsksForNeed (found_of words.now) (Some result) }
+{
+    match rules_in(words) {
+        Ok(rules) => Request::Need(NeedRequest {
+            name: asked.name,
+            place,
+            file: asked.file,
+            riichi: words.get_str("riichi"),
+            rules,
+        }),
+        Err(word) => Request::UnknownRules(word),
+    }
+}
+
+/// The place that a word says.
+fn place_of(word: &str) -> Option<u8>
+    ensures { result ≡ spec.place_of word.now }
+{
+    if word == "1" {
+        Some(1)
+    } else if word == "2" {
+        Some(2)
+    } else if word == "3" {
+        Some(3)
+    } else if word == "4" {
+        Some(4)
+    } else {
+        None
+    }
 }
 
 /// The request to answer these lines in this form, with what the options say.

@@ -1,8 +1,8 @@
 //! The commands and their words.
 use crate::command::CommandName;
 use crate::help::{
-    CODES_HELP, EXPLAIN_HELP, LINE_HELP, PROGRAM_HELP, REPLAY_HELP, RULES_HELP, SCORE_HELP,
-    SHAPE_HELP, WAITS_HELP, WIN_HELP, YAKU_HELP,
+    CODES_HELP, EXPLAIN_HELP, GAME_HELP, LINE_HELP, NEED_HELP, PROGRAM_HELP, REPLAY_HELP,
+    RULES_HELP, SCORE_HELP, SHAPE_HELP, WAITS_HELP, WIN_HELP, YAKU_HELP,
 };
 use clap::{Arg, ArgAction, Command, value_parser};
 use std::alloc::{AllocError, Global};
@@ -17,6 +17,7 @@ pub fn commands<'a>(alloc: Global) -> Result<Command<'a>, AllocError> {
         .subcommand_required(true);
     let program = with_hands(alloc, program)?;
     let program = with_files(alloc, program)?;
+    let program = with_games(alloc, program)?;
     with_helps(alloc, program)
 }
 
@@ -33,6 +34,12 @@ fn with_files<'a>(alloc: Global, program: Command<'a>) -> Result<Command<'a>, Al
     let program = with_command(program, explain_command(alloc))?;
     let program = with_command(program, replay_command(alloc))?;
     with_command(program, score_command(alloc))
+}
+
+/// With the commands that keep games.
+fn with_games<'a>(alloc: Global, program: Command<'a>) -> Result<Command<'a>, AllocError> {
+    let program = with_command(program, game_command(alloc))?;
+    with_command(program, need_command(alloc))
 }
 
 /// With a command, where there was memory for it.
@@ -275,6 +282,67 @@ fn tables_arg<'a>(alloc: Global) -> Arg<'a> {
         "Hands, one a line: each file is a table, 64 files and 1,000,000 hands in each are the most",
     );
     files.required(true).num_args(1..)
+}
+
+fn game_command<'a>(alloc: Global) -> Result<Command<'a>, AllocError> {
+    Command::new(alloc, CommandName::Game.word())
+        .about("Keeps the points of games of four: what each deal changes, and the final points")
+        .after_help(GAME_HELP)
+        .arg(hand_rules_arg(alloc))?
+        .arg(number_arg(alloc))?
+        .arg(games_arg(alloc))
+}
+
+fn need_command<'a>(alloc: Global) -> Result<Command<'a>, AllocError> {
+    Command::new(alloc, CommandName::Need.word())
+        .about("Prints the least wins that bring a player to a place in the next deal of a game")
+        .after_help(NEED_HELP)
+        .arg(hand_rules_arg(alloc))?
+        .arg(bets_arg(alloc))?
+        .arg(question_arg(alloc))
+}
+
+/// The rules for hands of games that name none.
+fn hand_rules_arg<'a>(alloc: Global) -> Arg<'a> {
+    let rules = option(
+        alloc,
+        "rules",
+        "The rules for hands where a game names none: 1 (as without this option), 2, or with changes, as 1+red-fives-ura (see help-rules)",
+    );
+    rules.value_name("RULES")
+}
+
+/// The texts of games.
+fn games_arg<'a>(alloc: Global) -> Arg<'a> {
+    let files = words_of(
+        alloc,
+        "FILE",
+        "Games, a line for each deal; standard input for -, or where no file is named",
+    );
+    files.num_args(0..)
+}
+
+/// The others who have bet in the deal.
+fn bets_arg<'a>(alloc: Global) -> Arg<'a> {
+    let bets = option(
+        alloc,
+        "riichi",
+        "Others who declare riichi in the deal, with commas between them",
+    );
+    bets.value_name("NAMES")
+}
+
+/// The player, the place and the file of the game.
+fn question_arg<'a>(alloc: Global) -> Arg<'a> {
+    let words = words_of(
+        alloc,
+        "WORD",
+        "The player, the place from 1 to 4 (the first, if nothing is said), and the file of the game, of which the last one is asked",
+    );
+    words
+        .value_name("NAME [PLACE] FILE")
+        .required(true)
+        .num_args(2..=3)
 }
 
 /// How many threads judge.

@@ -1,6 +1,7 @@
 -- With which exit status the program ends.
-use Rattle.std.specs.Prelude.{◌≡◌, ◌≢◌, ◌⊎◌, ◌==◌, ℕ, Bool, List, Result, Ok, Err, if◌then◌else◌}
-use Rattle.std.specs.List.{before_first}
+use Rattle.std.specs.Prelude.{◌≡◌, ◌≢◌, ◌⊎◌, ◌==◌, ℕ, Bool, false, List, Result, Ok, Err, codes, if◌then◌else◌}
+use Rattle.std.specs.List.{Any, before_first}
+use Rattle.std.specs.Str.{bytes_eq}
 use Rattle.clap.specs.Values.{kind_of}
 use Rattle.clap.specs.declared.error.kind.ErrorKind.TheVariants.{DisplayHelp, DisplayVersion}
 use Rattle.desk_score.specs.Faults.{desk_fault, status_of}
@@ -20,6 +21,8 @@ HasStatus (failures.Words error) status =
     × (kind_of error ≢ DisplayHelp → kind_of error ≢ DisplayVersion → status ≡ 2)
 HasStatus failures.Text status = status ≡ 2
 HasStatus (failures.UnknownRule word nearest) status = status ≡ 2
+HasStatus (failures.UnknownPlace word) status = status ≡ 2
+HasStatus (failures.NoNeed file name riichi why) status = status ≡ 2
 HasStatus (failures.CannotOpen file) status = status ≡ 3
 HasStatus (failures.Fault fault) status = status ≡ status_of fault
 HasStatus (failures.Explained fault) status = status ≡ status_of (desk_fault fault)
@@ -36,6 +39,15 @@ failure_in forms.Json fault = failures.Fault (desk_fault fault)
 failure_in forms.Reasons fault = failures.Explained fault
 failure_in forms.AllReasons fault = failures.Explained fault
 failure_in forms.JsonReasons fault = failures.Explained fault
+
+-- `-` is standard input
+abbrev pub is_input : List ℕ → Bool
+is_input name = bytes_eq name (codes "-")
+
+-- A file that can't be opened is one of these, and not standard input.
+abbrev pub IsOfFiles : List (List ℕ) → Failure → Type 0
+IsOfFiles files (failures.CannotOpen file) = Any (λ name. name ≡ file.now) files × (is_input file.now ≡ false)
+IsOfFiles files other = Unit {0}
 
 -- a file can't be opened, or there is no memory for it
 abbrev pub IsUnopened : List ℕ → Failure → Type 0

@@ -1,5 +1,5 @@
 //! The proved core of the commands: a text of record lines is answered in the form that was asked for.
-ghost use Rattle.std.specs.Prelude.{◌≡◌, ℕ, List, true, false, nat_lt, IfOk, IfErr, OnOk, string_bytes};
+ghost use Rattle.std.specs.Prelude.{◌≡◌, ℕ, List, true, false, length, max, min, nat_lt, IfOk, IfErr, OnOk, string_bytes};
 ghost use Rattle.desk_lines.specs.declared.fault.DeskFault.{DeskFault};
 ghost use Rattle.desk_lines.specs.Lines.{lines};
 ghost use Rattle.desk_lines.specs.Slips.{text_report};
@@ -15,7 +15,7 @@ use desk_lines::{
     DeskFault, EveryReading, Explained, Members, Numbers, Objects, Plain, Reasoned,
     ReasonedMembers, Responder, SuitMemo, TextReport, desk_text_by, numbered_text_by,
 };
-use std::alloc::Global;
+use std::alloc::{AllocError, Global};
 use std::thread::Threads;
 
 /// Answers lines: how, with the rows that are kept, and where to.
@@ -111,13 +111,20 @@ impl<W: Sink> Answering<W> {
         match self.manner.workers {
             None | Some(1) => desk_text_by::<A, SuitMemo, S, W>(rows, rules, reader, writer),
             Some(workers) => {
-                let mut crew = match self.manner.form {
-                    Form::Words => Crew::new(rt.alloc(), workers as usize)?,
-                    _ => Crew::for_objects(rt.alloc(), workers as usize)?,
-                };
+                let mut crew = crew_of(rt.alloc(), self.manner.form, workers)?;
                 crew.answer_text::<A, R, S, W>(rt, rules, reader, writer)
             }
         }
+    }
+}
+
+/// So many threads, whose rounds are shorter where answers are longer than in words.
+fn crew_of(alloc: Global, form: Form, workers: u32) -> Result<Crew, AllocError>
+    ensures { IfOk result (λ crew. length crew.shares.items ≡ max 1 (min workers 16)) }
+{
+    match form {
+        Form::Words => Crew::new(alloc, workers as usize),
+        _ => Crew::for_objects(alloc, workers as usize),
     }
 }
 

@@ -12,11 +12,13 @@ ghost use Rattle.riichi_desk.specs.Outcomes.{IsCarriedOut, TellsUnknown, TellsWa
 use crate::codes::print_codes;
 use crate::failure::{Failure, report};
 use crate::files::{length_of, open_file};
+use crate::games::answer_games;
 use crate::lines::answer_lines;
+use crate::needs::answer_need;
 use crate::noted::Notes;
 use crate::progress::{Progress, Terminals};
 use crate::rules::print_rules;
-use crate::scoring::score_files;
+use crate::scoring::{Scoring, score_files};
 use crate::version::print_version;
 use crate::yaku::print_yaku;
 use clap::error::ErrorKind;
@@ -147,6 +149,9 @@ fn answer_request<'a, R: Input + Print + Eprint + Files + Clock + Threads + Sync
         Request::HelpRules => print_rules(rt, notes),
         Request::HelpYaku => print_yaku(rt, notes),
         Request::UnknownRules(word) => unknown_rule(rt.alloc(), *word),
+        Request::UnknownPlace(word) => Err(Failure::UnknownPlace(*word)),
+        Request::Games { files, manner } => answer_games(rt, notes, *files, *manner),
+        Request::Need(need) => answer_need(rt, notes, need),
         Request::Replay(file) => replay_file(rt, notes, *file),
         Request::Score {
             files,
@@ -154,7 +159,17 @@ fn answer_request<'a, R: Input + Print + Eprint + Files + Clock + Threads + Sync
             rules,
             is_numbered,
             ..
-        } => score_files(rt, notes, progress, *files, *workers, *rules, *is_numbered),
+        } => score_files(
+            rt,
+            notes,
+            progress,
+            *files,
+            Scoring {
+                workers: *workers,
+                rules: *rules,
+                is_numbered: *is_numbered,
+            },
+        ),
     }
 }
 

@@ -2,6 +2,7 @@
 ghost use Rattle.std.specs.Bool.{OnTrue};
 ghost use Rattle.riichi_desk.specs.Failures.{HasStatus, IsReportedBy, IsUnwritten};
 
+use crate::needs::NoNeed;
 use clap::Error;
 use clap::error::ErrorKind;
 use desk_lines::DeskFault;
@@ -21,6 +22,15 @@ pub enum Failure<'a> {
     UnknownRule {
         word: &'a str,
         nearest: Option<Switch>,
+    },
+    /// There are the places 1 to 4, and not this one.
+    UnknownPlace(&'a str),
+    /// There is nothing that a player needs.
+    NoNeed {
+        file: &'a str,
+        name: &'a str,
+        riichi: Option<&'a str>,
+        why: NoNeed,
     },
     /// This file can't be opened.
     CannotOpen(&'a str),
@@ -109,7 +119,10 @@ impl Failure<'_> {
     {
         match self {
             Failure::Words(error) => { if error.use_stderr() { 2 } else { 0 } }
-            Failure::Text | Failure::UnknownRule { .. } => 2,
+            Failure::Text
+            | Failure::UnknownRule { .. }
+            | Failure::UnknownPlace(_)
+            | Failure::NoNeed { .. } => 2,
             Failure::CannotOpen(_) => 3,
             Failure::Fault(fault) => fault.status(),
             Failure::Explained(fault) => ScoreFault::from(*fault).status(),
@@ -131,6 +144,21 @@ fn tell_unknown_rule<R: Eprint>(rt: &R, word: &str, nearest: Option<Switch>) {
     };
 }
 
+fn tell_no_need<R: Eprint>(rt: &R, file: &str, name: &str, riichi: &str, why: NoNeed) {
+    let _ = match why {
+        NoNeed::NoGame => eprintln!(rt;
+            "riichi_desk: {file}: a line of the last game is refused, or there is no game"
+        ),
+        NoNeed::Over => eprintln!(rt; "riichi_desk: {file}: the last game is over"),
+        NoNeed::NoPlayer => eprintln!(rt;
+            "riichi_desk: {file}: `{name}` is no player of the last game"
+        ),
+        NoNeed::NoBettors => eprintln!(rt;
+            "riichi_desk: {file}: `{riichi}` are not players of the last game, each once"
+        ),
+    };
+}
+
 /// Says on standard error why the program stops, and returns its exit status; 3 where that can't be written either.
 pub fn report<R: Print + Eprint>(rt: &R, failure: &Failure<'_>) -> u8
     ensures { IsReportedBy failure.now result }
@@ -145,6 +173,16 @@ pub fn report<R: Print + Eprint>(rt: &R, failure: &Failure<'_>) -> u8
             let _ = eprintln!(rt; "error: the words of the command line aren't UTF-8 text");
         }
         Failure::UnknownRule { word, nearest } => tell_unknown_rule(rt, *word, *nearest),
+        Failure::UnknownPlace(word) => {
+            let word = *word;
+            let _ = eprintln!(rt; "error: a place is 1, 2, 3 or 4, and not `{word}`");
+        }
+        Failure::NoNeed {
+            file,
+            name,
+            riichi,
+            why,
+        } => tell_no_need(rt, *file, *name, riichi.unwrap_or(""), *why),
         Failure::CannotOpen(file) => {
             let file = *file;
             let _ = eprintln!(rt; "riichi_desk: cannot open {file}");

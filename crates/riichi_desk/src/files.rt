@@ -1,14 +1,18 @@
 //! Files that are read.
-ghost use Rattle.std.specs.Prelude.{IfErr};
-ghost use Rattle.riichi_desk.specs.Failures.{IsUnopened};
+ghost use Rattle.std.specs.Prelude.{◌≡◌, IfErr};
+ghost use Rattle.riichi_desk.specs.Failures.{IsUnopened, is_input};
 
 use crate::failure::Failure;
 use desk_score::ScoreFault;
 use std::rt::Files;
 use std::{fs, io};
 
-/// The name of the file that is standard input.
-pub const INPUT: &str = "-";
+/// Whether a name is that of standard input.
+pub fn is_input(name: &str) -> bool
+    ensures { result ≡ is_input name.now }
+{
+    name == "-"
+}
 
 /// Opens a file to be read.
 pub fn open_file<'a, R: Files>(rt: &R, file: &'a str) -> Result<R::File, Failure<'a>>
@@ -28,7 +32,7 @@ pub fn length_of<R: Files>(rt: &R, files: &[&str]) -> Option<u64> {
     let mut length: u64 = 0;
     for file in files {
         let told = fs::metadata(rt, *file).ok()?;
-        if *file == INPUT || !told.is_file() {
+        if is_input(*file) || !told.is_file() {
             return None;
         }
         length = length.saturating_add(told.len());

@@ -1,16 +1,19 @@
 //! Record lines that are answered: those of standard input, of files, or of the command line.
-ghost use Rattle.std.specs.Prelude.{◌≡◌, ◌∷◌, ◌++◌, ℕ, List, IfOk, length, string_bytes};
+ghost use Rattle.std.specs.Prelude.{◌≡◌, ◌∷◌, ◌++◌, ℕ, List, IfOk, IfErr, length, string_bytes};
 ghost use Rattle.desk_cli.specs.Commands.{command_word};
 ghost use Rattle.desk_cli.specs.Requests.{texts};
-ghost use Rattle.riichi_desk.specs.Answering as spec;
 ghost use Rattle.desk_lines.specs.Lines.{lines};
+ghost use Rattle.desk_lines.specs.declared.fault.DeskFault.{DeskFault};
+ghost use Rattle.riichi_desk.specs.Answering as spec;
+ghost use Rattle.riichi_desk.specs.Failures.{IsOfFiles, failure_in};
 ghost use Rattle.riichi_desk.specs.Told as told;
 
 use crate::answering::{Answering, has_refusal};
 use crate::failure::Failure;
-use crate::files::{INPUT, open_file};
-use crate::noted::{Notes, tell_slip};
+use crate::files::{is_input, open_file};
+use crate::noted::Notes;
 use crate::progress::Progress;
+use crate::slips::tell_slip;
 use desk_cli::{CommandName, Lines, Manner};
 use desk_io::{FromReader, Sink, ToWriter};
 use std::alloc::{AllocError, Global};
@@ -56,6 +59,8 @@ impl<W: Sink> Answering<W> {
             × spec.IsAnswered ⟦<W as Sink>⟧ self.old.writer self.new.writer
             self.old.manner (lines text)
             × (is_refused ≡ spec.has_refusal self.old.manner.rules text)) }
+        ensures failed { IfErr result (λ failure. (fault : DeskFault)
+            × (failure ≡ failure_in self.old.manner.form fault)) }
         ensures kept { self.new.manner ≡ self.old.manner }
     {
         self.stream(rt, notes, progress, "standard input", rt.reader())
@@ -75,6 +80,8 @@ impl<W: Sink> Answering<W> {
             × spec.IsAnswered ⟦<W as Sink>⟧ self.old.writer self.new.writer
             self.old.manner (lines text)
             × (is_refused ≡ spec.has_refusal self.old.manner.rules text)) }
+        ensures failed { IfErr result (λ failure. (fault : DeskFault)
+            × (failure ≡ failure_in self.old.manner.form fault)) }
         ensures kept { self.new.manner ≡ self.old.manner }
     {
         let mut reader = FromReader::new(notes.lines(progress, name, stream));
@@ -95,11 +102,12 @@ impl<W: Sink> Answering<W> {
             × (length given ≡ length files.now)
             × spec.AnswersTexts ⟦<W as Sink>⟧ self.old.manner
             self.old.writer given self.new.writer is_refused) }
+        ensures failed { IfErr result (IsOfFiles (texts files.now)) }
     {
         let mut is_refused = false;
         for file in files {
             let file = *file;
-            if file == INPUT {
+            if is_input(file) {
                 is_refused |= self.input(rt, notes, progress)?;
             } else {
                 let stream = open_file(rt, file)?;

@@ -2,7 +2,7 @@
 //!
 //! `desk_cli` reads the command line into a `Request`, `answers` carries it out, `lines` over record lines, which `answering`
 //! answers in their form, and `scoring` over the files of tables, `codes`, `yaku`, `rules` and `version` print what they are named for. `failure` says what is written on standard
-//! error and with which exit status the program ends; `noted` keeps what the system said of a stream that failed, and says which
+//! error and with which exit status the program ends; `noted` keeps what the system said of a stream that failed, `slips` says which
 //! line of a text set no profile, and `progress` shows on a terminal how far the answers are.
 #![tactic(auto)]
 
@@ -11,11 +11,14 @@ mod answers;
 mod codes;
 mod failure;
 mod files;
+mod games;
 mod lines;
+mod needs;
 mod noted;
 mod progress;
 mod rules;
 mod scoring;
+mod slips;
 mod version;
 mod yaku;
 

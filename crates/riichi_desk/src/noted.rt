@@ -1,7 +1,5 @@
-//! What the system said of the stream that failed last, and which line of a text set no profile.
+//! What the system said of the stream that failed last.
 use crate::progress::Progress;
-use desk_lines::Slip;
-use riichi_hand::rules_words;
 use std::cell::Cell;
 use std::io::{self, Eprint, ErrorKind, Print, Printer, Read, Write};
 use std::time::Clock;
@@ -142,24 +140,6 @@ impl<R: Eprint + Clock, T: Read> Read for Watched<'_, '_, R, T> {
         }
         Ok(count)
     }
-}
-
-/// Says that a line of a text set no profile, where one looks as if it should, and which rules the others have.
-pub fn tell_slip<R: Eprint + Clock>(progress: &Progress<'_, R>, name: &str, slip: &Option<Slip>) {
-    let Some(slip) = slip else {
-        return;
-    };
-    let rt = progress.wiped();
-    let line = slip.line;
-    let rules = rules_words(slip.rules);
-    let what = if slip.rules.is_house() {
-        "the rules"
-    } else {
-        "profile"
-    };
-    let _ = eprintln!(rt;
-        "riichi_desk: {name}: line {line} sets no profile: the lines are answered under {what} {rules}; `rules 1` or `rules 2` sets one, alone in the first line"
-    );
 }
 
 impl<W: Write> Write for Noted<'_, '_, W> {

@@ -7,8 +7,9 @@ ghost use Rattle.desk_score.specs.declared.score_fault.ScoreFault.{ScoreFault};
 
 use crate::failure::Failure;
 use crate::files::open_file;
-use crate::noted::{Notes, Watched, tell_slip};
+use crate::noted::{Notes, Watched};
 use crate::progress::Progress;
+use crate::slips::tell_slip;
 use desk_io::{FromReader, Sink, Source, ToWriter};
 use desk_lines::Rules;
 use desk_score::{ScoreFault, ScoreReport, score_text_with};
@@ -20,16 +21,24 @@ use std::time::Clock;
 /// The most files. That there are more is reported before any is opened.
 const MOST_FILES: usize = 64;
 
-/// Answers the record lines of files on standard output, table by table, where it is wanted with the names of the files and
-/// the numbers of their lines: whether a line is refused.
+/// How tables are answered.
+#[derive(Clone, Copy)]
+pub struct Scoring {
+    /// By how many workers.
+    pub workers: u32,
+    /// Under which rules, where a table sets none.
+    pub rules: Rules,
+    /// Whether with the names of the files and the numbers of their lines.
+    pub is_numbered: bool,
+}
+
+/// Answers the record lines of files on standard output, table by table: whether a line is refused.
 pub fn score_files<'a, R: Files + Print + Eprint + Clock + Threads + Sync + AllocGlobal>(
     rt: &R,
     notes: &Notes<'a>,
     progress: &Progress<'_, R>,
     files: &[&'a str],
-    workers: u32,
-    rules: Rules,
-    is_numbered: bool,
+    scoring: Scoring,
 ) -> Result<bool, Failure<'a>>
     ensures { 64 < length files.now → result ≡ Err (Failure.Fault ScoreFault.Range) }
 {
@@ -38,7 +47,7 @@ pub fn score_files<'a, R: Files + Print + Eprint + Clock + Threads + Sync + Allo
     }
     let readers = open_files(rt, notes, progress, files)?;
     let mut writer = ToWriter::new(notes.output(rt));
-    let report = score_readers(rt, rules, files, is_numbered, readers, workers, &mut writer)?;
+    let report = score_readers(rt, scoring, files, readers, &mut writer)?;
     for (name, slip) in files.iter().zip(report.slips.as_slice()) {
         tell_slip(progress, *name, slip);
     }
@@ -59,26 +68,28 @@ fn is_refused(report: &ScoreReport) -> bool
     report.counts.refused > 0
 }
 
-/// Answers the texts that readers give, each a table, where it is wanted with the names of the files and the numbers of their
-/// lines.
+/// Answers the texts that readers give, each a table.
 fn score_readers<'a, S: Source + Drop, W: Sink, R: Threads + Sync + AllocGlobal>(
     rt: &R,
-    rules: Rules,
+    scoring: Scoring,
     files: &[&str],
-    is_numbered: bool,
     readers: Vec<S>,
-    workers: u32,
     writer: &mut W,
 ) -> Result<ScoreReport, Failure<'a>>
-    ensures ok { let names = if is_numbered then Some (texts files.now) else None in
+    ensures ok { let names = if scoring.is_numbered then Some (texts files.now) else None in
         IfOk result (λ report. (texts : List (List ℕ))
         × AllGive ⟦<S as Source>⟧ readers.items texts
-        × WritesAll ⟦<W as Sink>⟧ writer.old writer.new (score_by names rules texts)
-        × (report.counts ≡ score_report rules texts)
-        × (report.slips.items ≡ score_slips rules texts)) }
+        × WritesAll ⟦<W as Sink>⟧ writer.old writer.new (score_by names scoring.rules texts)
+        × (report.counts ≡ score_report scoring.rules texts)
+        × (report.slips.items ≡ score_slips scoring.rules texts)) }
     ensures failed { IfErr result
         (λ failure. (fault : ScoreFault) × (failure ≡ Failure.Fault fault)) }
 {
+    let Scoring {
+        workers,
+        rules,
+        is_numbered,
+    } = scoring;
     let names = if is_numbered { Some(files) } else { None };
     Ok(score_text_with(rt, rt.alloc(), rules, names, readers, workers, writer)?)
 }

@@ -3,7 +3,7 @@ use Rattle.desk_io.specs.declared.sink.Sink.{Ghosts as OfSink}
 use Rattle.desk_cli.specs.declared.request.Manner.{Manner}
 use Rattle.desk_lines.specs.Lines.{lines}
 use Rattle.riichi_desk.specs.Answering.{AnswersTexts, IsAnswered, has_refusal, none, one_more}
-use Rattle.riichi_desk.proofs.answering.Answering.files.Goals.{then-eq+in_ok-is_refused, else-eq+in_ok-stream+in_ok-is_refused-2}
+use Rattle.riichi_desk.proofs.answering.Answering.files.Goals.{then-is_input+in_ok-is_refused, else-is_input+in_ok-stream+in_ok-is_refused-2}
 use Rattle.riichi_desk.proofs.answering.Answering.files.Goals as goal
 
 -- one more text is answered
@@ -27,15 +27,15 @@ pub loop-file-init : goal.loop-file-init
 loop-file-init g c = record { manner = refl; answered = ([], refl, none) }
 
 pub loop-file-preserved : goal.loop-file-preserved
-loop-file-preserved g c = elim c.if-eq.branch [
-  | then-eq+in_ok-is_refused w ↦
+loop-file-preserved g c = elim c.if-is_input.branch [
+  | then-is_input+in_ok-is_refused w ↦
       let l = c.loop-file in
       let e = w.in_ok-is_refused.ensures in
       record {
         manner = ap (λ s. s.manner) w.self-is ∙ e.kept ∙ l.invariant.manner;
         answered = next g.W.Sink _ l.self.manner _ _ _ _ _ _ _ _ l.invariant.manner l.invariant.answered e.answered (ap (λ s. s.writer) w.self-is) w.is_refused-is;
       }
-  | else-eq+in_ok-stream+in_ok-is_refused-2 w ↦
+  | else-is_input+in_ok-stream+in_ok-is_refused-2 w ↦
       let l = c.loop-file in
       let e = w.in_ok-is_refused-2.ensures in
       record {

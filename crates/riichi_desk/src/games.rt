@@ -1,0 +1,86 @@
+//! The command `game`: texts of games, each by itself.
+ghost use Rattle.std.specs.Prelude.{◌≡◌, ℕ, List, IfOk, length, nat_lt};
+ghost use Rattle.riichi_desk.specs.Games as spec;
+
+use crate::failure::Failure;
+use crate::files::{is_input, open_file};
+use crate::noted::Notes;
+use desk_cli::GameManner;
+use desk_games::games_text_with;
+use desk_io::{FromReader, Sink, Source, ToWriter};
+use desk_lines::DeskReport;
+use std::io::{Input, Print};
+use std::rt::Files;
+
+/// Answers texts of games on standard output, those of files or of standard input: whether a line is refused.
+pub fn answer_games<'a, R: Input + Print + Files>(
+    rt: &R,
+    notes: &Notes<'a>,
+    files: Option<&[&'a str]>,
+    manner: GameManner,
+) -> Result<bool, Failure<'a>> {
+    let mut writer = ToWriter::new(notes.output(rt));
+    match files {
+        None | Some([]) => answer_file(rt, notes, "-", manner, &mut writer),
+        Some(files) => answer_files(rt, notes, files, manner, &mut writer),
+    }
+}
+
+/// Answers the texts of files, one after another. The first that can't be opened or read ends it.
+fn answer_files<'a, R: Input + Files, W: Sink>(
+    rt: &R,
+    notes: &Notes<'a>,
+    files: &[&'a str],
+    manner: GameManner,
+    writer: &mut W,
+) -> Result<bool, Failure<'a>>
+    ensures { IfOk result (λ is_refused. (texts : List (List ℕ)) × (length texts ≡ length files.now)
+        × spec.AnswersAllGames ⟦<W as Sink>⟧ manner writer.old texts writer.new is_refused) }
+{
+    let mut is_refused = false;
+    for file in files {
+        is_refused |= answer_file(rt, notes, *file, manner, writer)?;
+    }
+    Ok(is_refused)
+}
+
+/// Answers the text of a file, or of standard input.
+fn answer_file<'a, R: Input + Files, W: Sink>(
+    rt: &R,
+    notes: &Notes<'a>,
+    file: &'a str,
+    manner: GameManner,
+    writer: &mut W,
+) -> Result<bool, Failure<'a>>
+    ensures { IfOk result (λ is_refused. (text : List ℕ)
+        × spec.AnswersGames ⟦<W as Sink>⟧ manner writer.old writer.new text is_refused) }
+{
+    if is_input(file) {
+        let mut reader = FromReader::new(notes.reader("standard input", rt.reader()));
+        return answer_source(manner, &mut reader, writer);
+    }
+    let mut reader = FromReader::new(notes.reader(file, open_file(rt, file)?));
+    answer_source(manner, &mut reader, writer)
+}
+
+/// Answers the text that a source gives.
+fn answer_source<'a, S: Source, W: Sink>(
+    manner: GameManner,
+    reader: &mut S,
+    writer: &mut W,
+) -> Result<bool, Failure<'a>>
+    ensures { IfOk result (λ is_refused. (text : List ℕ)
+        × spec.AnswersGames ⟦<W as Sink>⟧ manner writer.old writer.new text is_refused) }
+{
+    match games_text_with(manner.rules, manner.is_numbered, reader, writer) {
+        Ok(report) => Ok(has_refusal(&report.counts)),
+        Err(fault) => Err(Failure::Explained(fault)),
+    }
+}
+
+/// Whether a line of a text is refused.
+fn has_refusal(counts: &DeskReport) -> bool
+    ensures { result ≡ nat_lt 0 counts.now.refused }
+{
+    counts.refused > 0
+}
