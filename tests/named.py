@@ -117,7 +117,7 @@ def test_paths(top: Path, pages: list[Path], told: Callable[[str, object, object
 def test_names(top: Path, told: Callable[[str, object, object], None]) -> None:
     crates = {it.name: Crate(it) for it in (top / "crates").iterdir() if (it / "src").is_dir()}
     text = (top / "docs/PROOFS.md").read_text()
-    told("docs/PROOFS.md has at most 190 lines", True, len(text.splitlines()) <= 190)
+    told("docs/PROOFS.md has at most 200 lines", True, len(text.splitlines()) <= 200)
     kept = {(crate, it.stem) for crate in crates for it in (crates[crate].folder / "must-fail").glob("*.edit")}
     for line in text.splitlines():
         row = cells(line)

@@ -86,11 +86,11 @@ row 2 '' "invalid value '0' for '--workers <N>'" score --workers 0 file
 row 2 '' "invalid value '17' for '--workers <N>'" score --workers 17 file
 row 2 '' "invalid value 'many' for '--workers <N>'" score --workers many file
 row 0 'riichi_desk 0.1.0' '' --version
-for command in '' win waits shape line explain replay score help-yaku help-codes help-rules; do
+for command in '' win waits shape line explain replay score game need help-yaku help-codes help-rules; do
   told "the help of riichi_desk $command says the program's own name" 'Usage: riichi_desk' "$("$program" $command --help | grep -oE '^Usage: [a-z_]+')"
   told "the help of riichi_desk $command has the exit statuses" 5 "$("$program" $command --help | sed -n '/^Exit status:$/,$p' | grep -cE '^  [0-4]  ')"
 done
-told 'the help names the commands' 10 "$("$program" --help | grep -cE '^  (win|waits|shape|line|explain|replay|score|help-codes|help-rules|help-yaku) ')"
+told 'the help names the commands' 12 "$("$program" --help | grep -cE '^  (win|waits|shape|line|explain|replay|score|game|need|help-codes|help-rules|help-yaku) ')"
 
 for words in --help help-codes; do
   told "$words and a full disk" "riichi_desk: fault F2
@@ -504,3 +504,59 @@ for workers in 1 4 16; do
   "$program" score --workers $workers examples/club-night.lines "$room/long" examples/rules-two.lines > "$room/answers" 2> "$room/said"
   told "score of the examples by $workers workers" "$(sha256sum < "$room/wanted")" "$(sha256sum < "$room/answers")"
 done
+
+# texts of games: those of docs/GAME.md and of examples/, and the worked deals
+if command -v python3 > /dev/null; then
+  tests/games_told.py "$program" > "$room/games"
+  grep -v '^[0-9]* passed' "$room/games"
+  read -r more _ fewer _ <<< "$(tail -n 1 "$room/games")"
+  passed=$((passed + more)) failed=$((failed + fewer))
+else
+  skip 'the texts of docs/GAME.md' python3
+fi
+printf 'game Anna Bo Cyd Dee\nron Bo from Cyd 1.30\n' > "$room/good.game"
+printf 'game Anna Bo Cyd Dee\nron Bo from Bo 1.30\n' > "$room/wrong.game"
+printf 'game Anna Bo Cyd Dee\nend\n' > "$room/over.game"
+begun='game Anna Bo Cyd Dee start 30000'
+first='east 1 counters 0 sticks 0 changes 0 +1000 -1000 0 points 30000 31000 29000 30000'
+stands='stands east 2 counters 0 sticks 0 points 30000 31000 29000 30000'
+held='stands east 1 counters 0 sticks 0 points 30000 30000 30000 30000'
+row 0 "$begun
+$first
+$stands" '' game "$room/good.game"
+row 1 "$begun
+refused G5
+$held" '' game "$room/wrong.game"
+# several files, of which one has a refused line; one that isn't there ends it
+row 1 "$begun
+refused G5
+$held
+$begun
+$first
+$stands" '' game "$room/wrong.game" "$room/good.game"
+row 3 "$begun
+$first
+$stands" 'riichi_desk: cannot open nowhere.game' game "$room/good.game" nowhere.game
+: > "$room/input"
+row 0 '' '' game
+cp "$room/good.game" "$room/input"
+row 0 "$begun
+$first
+$stands" '' game
+row 0 "$begun
+$first
+$stands" '' game -
+row 2 '' "error: --rules has no rule \`red\`" game --rules 1+red "$room/good.game"
+# what a player needs, and why there is nothing
+row 0 'need Cyd place 2
+from Anna strictly 1300 1.40 tie 1000 1.30
+from Bo strictly 1300 1.40 tie 1000 1.30
+from Dee strictly 1300 1.40 tie 1000 1.30
+tsumo strictly 300/500 1.30 tie 300/500 1.30' '' need Cyd 2 "$room/good.game"
+row 2 '' "error: a place is 1, 2, 3 or 4, and not \`5\`" need Cyd 5 "$room/good.game"
+row 2 '' "\`Eve\` is no player of the last game" need Eve "$room/good.game"
+row 2 '' "\`Anna,Anna\` are not players of the last game, each once" need Cyd "$room/good.game" --riichi Anna,Anna
+row 2 '' 'the last game is over' need Cyd "$room/over.game"
+row 2 '' 'a line of the last game is refused, or there is no game' need Cyd "$room/wrong.game"
+row 2 '' 'a line of the last game is refused, or there is no game' need Cyd /dev/null
+: > "$room/input"

@@ -59,6 +59,10 @@ told 'what the library asks of the C library' 'memcpy memmove memset' "$(nm -u "
 if command -v cargo > /dev/null; then
   cargo test --quiet --release --offline --manifest-path bench/Cargo.toml --target-dir "$made/bench" > "$made/ledger" 2>&1
   told 'the texts of docs/GAME.md and the worked deals, by plain Rust' 'test result: ok' "$(grep -o '^test result: ok' "$made/ledger" | sort -u)"
+  cargo build --quiet --release --offline --manifest-path bench/Cargo.toml --target-dir "$made/bench"
+  "$made/bench/release/bench" games 2000 17 > "$made/games.text"
+  told 'two thousand random texts of games, by plain Rust' "$("$made/bench/release/bench" ledger < "$made/games.text" | sha256sum)" \
+    "$("$program" game < "$made/games.text" | sha256sum)"
 else
   skip 'docs/GAME.md' cargo
 fi
