@@ -106,7 +106,7 @@ cd "$scripts/link" || exit 1
 told 'bash offers the commands' "$({ echo "$commands"; options_of '' | tr ' ' '\n'; } | sort | xargs)" "$(completed)"
 for command in $(grep -v '^help$' <<< "$commands"); do
   files=
-  "$program" $command --help | grep -qE '^  <FILE>|--file <FILE>' && files=desk
+  "$program" $command --help | grep -qE '^  [[<].*FILE[]>]|--file <FILE>' && files=desk
   told "bash offers the options of $command" "$({ options_of "$command" | tr ' ' '\n'; echo $files; } | sort | xargs)" "$(completed "$command")"
   told "zsh offers the options of $command" "$(options_of "$command")" \
     "$(sed -n "s/^ *$command) _arguments //p" "$unpacked/completions/_riichi_desk" | grep -oE -- '\)-{1,2}[a-zA-Z][a-z-]*\[' | tr -d ')[' | sort | xargs)"
