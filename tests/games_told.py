@@ -69,6 +69,18 @@ def try_need(begun: str, keys: dict[str, str], lines: list[str]) -> None:
         print(f"FAILED: {keys['row']}: wanted {wanted}, got {got}")
 
 
+def try_keys() -> None:
+    """The keys of an evening that docs/GAME.md counts: as games, and its wins alone as lines, each of which is a win."""
+    page = (TOP / "docs/GAME.md").read_text()
+    games, wins = ((TOP / "examples/games" / f"four-tables.{it}").read_text() for it in ("game", "lines"))
+    wanted = [f"{len(games.splitlines())} lines and {len(games)} keys", f"are {len(wins)} keys"]
+    answers = answered(wins, "line").splitlines()[:-1]
+    holds = all(it in page for it in wanted) and len(answers) == len(wins.splitlines()) and all(it.startswith("won ") for it in answers)
+    counts["passed" if holds else "failed"] += 1
+    if not holds:
+        print(f"FAILED: docs/GAME.md says another number of keys than {wanted}, or a line of four-tables.lines is no win")
+
+
 def main() -> None:
     blocks = re.findall(r"^```\n(.*?)^```$", (TOP / "docs/GAME.md").read_text(), re.M | re.S)
     for block in blocks:
@@ -82,6 +94,7 @@ def main() -> None:
     for game in sorted((TOP / "examples" / "games").glob("*.game")):
         wanted = game.with_suffix(".answers").read_text().splitlines()
         told(game.name, wanted, answered(game.read_text(), "game"))
+    try_keys()
     print(f"{counts['passed']} passed, {counts['failed']} failed")
 
 

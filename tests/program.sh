@@ -547,6 +547,14 @@ row 0 "$begun
 $first
 $stands" '' game -
 row 2 '' "error: --rules has no rule \`red\`" game --rules 1+red "$room/good.game"
+# read as record lines, such a text is answered as one, and said to be one of games
+note='the first line begins a game of four players; `riichi_desk game` reads such a text'
+row 1 $'refused H2\nrefused H2' "standard input: $note" line
+row 1 $'refused H2\nrefused H2' "good.game: $note" score "$room/good.game"
+told 'a text of games is said to be one once' 1 "$("$program" line --file "$room/good.game" 2>&1 > /dev/null | grep -c "$note")"
+printf 'games Anna\n' > "$room/input"
+told 'another word is no game' 0 "$("$program" line < "$room/input" 2>&1 > /dev/null | grep -c "$note")"
+told 'the words of need' 'Usage: riichi_desk need [OPTIONS] <NAME> [PLACE] <FILE>' "$("$program" need --help | grep '^Usage')"
 # what a player needs, and why there is nothing
 row 0 'need Cyd place 2
 from Anna strictly 1300 1.40 tie 1000 1.30

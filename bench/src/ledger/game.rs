@@ -19,11 +19,13 @@ pub struct Game {
     pub is_over: bool,
     /// A line was refused, so all behind it are.
     pub is_refused: bool,
+    /// The state, the penalties and whether it was over before the last accepted line, where that can be taken back.
+    former: Option<(State, Four, bool)>,
 }
 
 impl Game {
     pub fn new(names: [String; 4], rules: Rules) -> Game {
-        Game { names, rules, state: State::first(&rules), penalties: [0; 4], is_over: false, is_refused: false }
+        Game { names, rules, state: State::first(&rules), penalties: [0; 4], is_over: false, is_refused: false, former: None }
     }
 
     /// The player of this name, or of the only name that begins so.
@@ -35,7 +37,20 @@ impl Game {
         begun.next().filter(|_| begun.next().is_none())
     }
 
+    /// Takes the refused lines back, or the last accepted one: whether there was one.
+    fn undo(&mut self) -> bool {
+        if !self.is_refused {
+            let Some((state, penalties, is_over)) = self.former.take() else {
+                return false;
+            };
+            (self.state, self.penalties, self.is_over) = (state, penalties, is_over);
+        }
+        self.is_refused = false;
+        true
+    }
+
     pub fn apply(&mut self, step: &Step) {
+        self.former = Some((self.state, self.penalties, self.is_over));
         match step {
             Step::Deal { after, end, .. } => {
                 self.state = *after;
@@ -96,6 +111,7 @@ impl Desk {
         match words.as_deref() {
             Some([]) => {}
             Some(["game", rest @ ..]) => self.begin(rest),
+            Some(["undo"]) => self.undo(),
             _ if is_refused => self.refuse(14.into()),
             None => self.refuse(1.into()),
             Some([first, rest @ ..]) => self.go_on(first, rest),
@@ -111,6 +127,20 @@ impl Desk {
         self.tally.rules(rest);
         writeln!(self.out, "game {} start {}", names.join(" "), rules.start).expect("texts grow");
         self.current = Current::Game(Box::new(Game::new(names, rules)));
+    }
+
+    fn undo(&mut self) {
+        match &mut self.current {
+            Current::Nothing => self.refuse(2.into()),
+            Current::Refused => self.refuse(14.into()),
+            Current::Game(game) => {
+                if game.undo() {
+                    write_stands(&mut self.out, &game.state);
+                } else {
+                    self.refuse(4.into());
+                }
+            }
+        }
     }
 
     fn go_on(&mut self, first: &str, rest: &[&str]) {
@@ -158,10 +188,7 @@ impl Desk {
             self.tally.finals(game, &finals);
             write_finals(&mut self.out, game, &finals);
         } else {
-            self.out.push_str("stands ");
-            write_place(&mut self.out, &game.state);
-            write_points(&mut self.out, &game.state.points);
-            self.out.push('\n');
+            write_stands(&mut self.out, &game.state);
         }
     }
 
@@ -180,6 +207,13 @@ fn write_place(out: &mut String, state: &State) {
 fn write_points(out: &mut String, points: &Four) {
     out.push_str(" points");
     points.iter().for_each(|points| write!(out, " {points}").expect("texts grow"));
+}
+
+fn write_stands(out: &mut String, state: &State) {
+    out.push_str("stands ");
+    write_place(out, state);
+    write_points(out, &state.points);
+    out.push('\n');
 }
 
 fn write_step(out: &mut String, game: &Game, before: &State, step: &Step) {

@@ -126,7 +126,7 @@ A game is typed as it is played, a line for each deal:
   ron Bo from Cyd 1.30
   draw ready Anna,Bo riichi Anna
   tsumo Dee 2.30
-On a terminal each line is answered at once; Control-D ends the text.
+On a terminal each line is answered at once; `undo` takes the last one back, Control-D ends the text.
 
 Exit status:
 "

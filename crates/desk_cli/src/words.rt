@@ -296,6 +296,7 @@ fn game_command<'a>(alloc: Global) -> Result<Command<'a>, AllocError> {
 fn need_command<'a>(alloc: Global) -> Result<Command<'a>, AllocError> {
     Command::new(alloc, CommandName::Need.word())
         .about("Prints the least wins that bring a player to a place in the next deal of a game")
+        .override_usage("riichi_desk need [OPTIONS] <NAME> [PLACE] <FILE>")
         .after_help(NEED_HELP)
         .arg(hand_rules_arg(alloc))?
         .arg(bets_arg(alloc))?

@@ -6,8 +6,8 @@ use Rattle.riichi_game_text.specs.GameLines.{GameSaid, game_of, hand_word}
 use Rattle.riichi_game_text.specs.TableWords.{IsHandRules}
 use Rattle.desk_games.specs.Played.{GameSoFar}
 use Rattle.desk_games.specs.Desks.{begun, begun_desk}
-use Rattle.desk_games.specs.Replies.{LineOfGame, Odd, Blank, Begins, Entry, seen_in, Reply, begin_reply, IsReplyTo, AreReplies}
-use Rattle.desk_games.specs.Laws.{is_begin, BeginNone, outcomes_in, refuses, IsAtHand, GameComesFromItsLines}
+use Rattle.desk_games.specs.Replies.{LineOfGame, Odd, Blank, Begins, Undo, Entry, seen_in, Reply, begin_reply, IsReplyTo, AreReplies}
+use Rattle.desk_games.specs.Laws.{is_begin, BeginNone, UndoNone, outcomes_in, refuses, IsAtHand, GameComesFromItsLines}
 use Rattle.desk_games.specs.declared.desk.GameDesk.{GameDesk}
 use Rattle.desk_games.specs.declared.desk.GameDesk.TheVariants as desk
 use Rattle.desk_games.proofs.Outcomes.{gone_on, goes_on_by_outcomes}
@@ -23,10 +23,12 @@ stays_one : (given : Rules) (now : GameDesk) (seen : LineOfGame) (line : List �
 stays_one given desk.NoGame Odd line reply none other is = ap (λ (r : Reply). r.desk) is
 stays_one given desk.NoGame Blank line reply none other is = ap (λ (r : Reply). r.desk) is
 stays_one given desk.NoGame (Begins words) line reply none other is = absurd (cc)
+stays_one given desk.NoGame Undo line reply none other is = ap (λ (r : Reply). r.desk) is
 stays_one given desk.NoGame Entry line reply none other is = ap (λ (r : Reply). r.desk) is
 stays_one given desk.Refused Odd line reply none other is = ap (λ (r : Reply). r.desk) is
 stays_one given desk.Refused Blank line reply none other is = ap (λ (r : Reply). r.desk) is
 stays_one given desk.Refused (Begins words) line reply none other is = absurd (cc)
+stays_one given desk.Refused Undo line reply none other is = ap (λ (r : Reply). r.desk) is
 stays_one given desk.Refused Entry line reply none other is = ap (λ (r : Reply). r.desk) is
 stays_one given (desk.Game game) seen line reply none other is = absurd (cc)
 
@@ -65,13 +67,13 @@ further given next lines game at = record {
   progress = at.progress;
 }
 
-begun_at : (given : Rules) (line : List ℕ) (lines : List (List ℕ)) (words : List (List ℕ)) (hand : Option Rules) (said : Option GameSaid) (others : List Reply) (game : GameSoFar) → BeginNone lines
+begun_at : (given : Rules) (line : List ℕ) (lines : List (List ℕ)) (words : List (List ℕ)) (hand : Option Rules) (said : Option GameSaid) (others : List Reply) (game : GameSoFar) → BeginNone lines → UndoNone lines
     → seen_in line ≡ Begins words → IsHandRules given (hand_word words) hand → game_of hand words ≡ said → AreReplies given (begun_desk said) lines others (desk.Game game) → IsAtHand given (line ∷ lines) game
-begun_at given line lines words hand None others game none begins named says are =
+begun_at given line lines words hand None others game none keep begins named says are =
     let same : desk.Game game ≡ desk.Refused = stays given desk.Refused lines others (desk.Game game) refl none are in absurd (cc)
-begun_at given line lines words hand (Some said) others game none begins named says are =
-    let reached : desk.Game game ≡ desk.Game (gone_on (begun said) (outcomes_in others) (list_any refuses others)) = goes_on_by_outcomes given (begun said) lines others (desk.Game game) none are in
-    let is : game ≡ gone_on (begun said) (outcomes_in others) (list_any refuses others) = ap (game_in game) reached in
+begun_at given line lines words hand (Some said) others game none keep begins named says are =
+    let reached = goes_on_by_outcomes given (begun said) lines others (desk.Game game) none keep are in
+    let is : game ≡ gone_on (begun said) reached.0 (outcomes_in others) (list_any refuses others) = ap (game_in game) reached.1 in
     record {
       front = [];
       line = line;
@@ -95,26 +97,27 @@ begun_desk_of : (first : GameDesk) (said : Option GameSaid) → (begin_reply fir
 begun_desk_of first None = refl
 begun_desk_of first (Some said) = refl
 
-by_line : (given : Rules) (first : GameDesk) (line : List ℕ) (lines : List (List ℕ)) (reply : Reply) (others : List Reply) (game : GameSoFar) (seen : LineOfGame) → BeginNone lines → seen_in line ≡ seen
+by_line : (given : Rules) (first : GameDesk) (line : List ℕ) (lines : List (List ℕ)) (reply : Reply) (others : List Reply) (game : GameSoFar) (seen : LineOfGame) → BeginNone lines → UndoNone lines → seen_in line ≡ seen
     → IsReplyTo given first seen line reply → AreReplies given reply.desk lines others (desk.Game game) → BeginNone (line ∷ lines) ⊎ IsAtHand given (line ∷ lines) game
-by_line given first line lines reply others game Odd none seen is are = inl (ap is_begin seen, none)
-by_line given first line lines reply others game Blank none seen is are = inl (ap is_begin seen, none)
-by_line given first line lines reply others game (Begins words) none seen is are =
+by_line given first line lines reply others game Odd none keep seen is are = inl (ap is_begin seen, none)
+by_line given first line lines reply others game Blank none keep seen is are = inl (ap is_begin seen, none)
+by_line given first line lines reply others game (Begins words) none keep seen is are =
     let behind : reply.desk ≡ begun_desk (game_of is.0 words) = ap (λ (r : Reply). r.desk) is.2 ∙ begun_desk_of first (game_of is.0 words) in
-    inr (begun_at given line lines words is.0 (game_of is.0 words) others game none seen is.1 refl (subst (λ (d : GameDesk). AreReplies given d lines others (desk.Game game)) behind are))
-by_line given first line lines reply others game Entry none seen is are = inl (ap is_begin seen, none)
+    inr (begun_at given line lines words is.0 (game_of is.0 words) others game none keep seen is.1 refl (subst (λ (d : GameDesk). AreReplies given d lines others (desk.Game game)) behind are))
+by_line given first line lines reply others game Undo none keep seen is are = inl (ap is_begin seen, none)
+by_line given first line lines reply others game Entry none keep seen is are = inl (ap is_begin seen, none)
 
-at_hand_from : (given : Rules) (first : GameDesk) (lines : List (List ℕ)) (replies : List Reply) (game : GameSoFar) → AreReplies given first lines replies (desk.Game game) → BeginNone lines ⊎ IsAtHand given lines game
-at_hand_from given first [] replies game are = inl tt
-at_hand_from given first (line ∷ lines) replies game are =
-    elim (at_hand_from given are.0.desk lines are.1 game are.4) as (λ _. BeginNone (line ∷ lines) ⊎ IsAtHand given (line ∷ lines) game) [
-      | inl none ↦ by_line given first line lines are.0 are.1 game (seen_in line) none refl are.2 are.4
+at_hand_from : (given : Rules) (first : GameDesk) (lines : List (List ℕ)) (replies : List Reply) (game : GameSoFar) → UndoNone lines → AreReplies given first lines replies (desk.Game game) → BeginNone lines ⊎ IsAtHand given lines game
+at_hand_from given first [] replies game keep are = inl tt
+at_hand_from given first (line ∷ lines) replies game keep are =
+    elim (at_hand_from given are.0.desk lines are.1 game keep.1 are.4) as (λ _. BeginNone (line ∷ lines) ⊎ IsAtHand given (line ∷ lines) game) [
+      | inl none ↦ by_line given first line lines are.0 are.1 game (seen_in line) none keep.1 refl are.2 are.4
       | inr at ↦ inr (further given line lines game at)
     ]
 
 pub game_comes_from_its_lines : GameComesFromItsLines
-game_comes_from_its_lines is_numbered given lines answers report game answered =
-    elim (at_hand_from given desk.NoGame lines answered.replies game answered.are) as (λ _. IsAtHand given lines game) [
+game_comes_from_its_lines is_numbered given lines answers report game keep answered =
+    elim (at_hand_from given desk.NoGame lines answered.replies game keep answered.are) as (λ _. IsAtHand given lines game) [
       | inl none ↦
           let same : desk.Game game ≡ desk.NoGame = stays given desk.NoGame lines answered.replies (desk.Game game) refl none answered.are in absurd (cc)
       | inr at ↦ at

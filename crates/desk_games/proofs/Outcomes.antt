@@ -5,21 +5,23 @@ use Rattle.std.specs.List.{list_any, cons_option}
 use Rattle.riichi_hand.specs.Rules.{Rules}
 use Rattle.riichi_table.specs.declared.outcome.Outcome.{Outcome}
 use Rattle.riichi_game.specs.Games.{after_all}
+use Rattle.riichi_game.specs.declared.game.Progress.{Progress}
 use Rattle.riichi_game_text.specs.Entries.{entry_of}
 use Rattle.riichi_game_text.specs.declared.fault.GameFault.{GameFault}
 use Rattle.riichi_game_text.specs.declared.fault.GameFault.TheVariants.{G1, G14}
 use Rattle.desk_games.specs.Played.{GameSoFar}
-use Rattle.desk_games.specs.Replies.{LineOfGame, Odd, Blank, Begins, Entry, seen_in, Reply, blank_reply, refusal, entry_reply, IsReplyTo, AreReplies}
-use Rattle.desk_games.specs.Laws.{is_begin, outcomes_in, refuses, GoesOnByOutcomes, HeldTakesNone}
+use Rattle.desk_games.specs.Replies.{LineOfGame, Odd, Blank, Begins, Undo, Entry, seen_in, Reply, blank_reply, refusal, entry_reply, IsReplyTo, AreReplies}
+use Rattle.desk_games.specs.Laws.{is_begin, is_undo, outcomes_in, refuses, GoesOnByOutcomes, HeldTakesNone}
 use Rattle.desk_games.specs.declared.desk.GameDesk.{GameDesk}
 use Rattle.desk_games.specs.declared.desk.GameDesk.TheVariants as desk
 
 -- the game behind lines that said these outcomes, where one was refused, or none
-abbrev pub gone_on : GameSoFar → List Outcome → Bool → GameSoFar
-gone_on game outcomes refused = record {
+abbrev pub gone_on : GameSoFar → Option Progress → List Outcome → Bool → GameSoFar
+gone_on game former outcomes refused = record {
   names = game.names;
   rules = game.rules;
   progress = after_all game.progress game.rules outcomes;
+  former = former;
   is_held = game.is_held || refused;
 }
 
@@ -33,30 +35,33 @@ or_false : (b : Bool) → (b || false) ≡ b
 or_false true = refl
 or_false false = refl
 
--- what a line came to that begins no game
+-- what a line came to that neither begins a game nor takes a line back
 abbrev GoesOn : GameSoFar → Reply → Type 0
-GoesOn game reply = reply.desk ≡ desk.Game (gone_on game (cons_option reply.outcome []) (refuses reply))
+GoesOn game reply = (former : Option Progress) × (reply.desk ≡ desk.Game (gone_on game former (cons_option reply.outcome []) (refuses reply)))
 
 refused_so : (game : GameSoFar) (fault : GameFault) → GoesOn game (refusal (desk.Game game) fault)
-refused_so game fault = ap (λ (held : Bool). desk.Game (record game { is_held = held })) (sym (or_true game.is_held))
+refused_so game fault = (game.former, ap (λ (held : Bool). desk.Game (record game { is_held = held })) (sym (or_true game.is_held)))
 
 blank_so : (game : GameSoFar) → GoesOn game (blank_reply (desk.Game game))
-blank_so game = ap (λ (held : Bool). desk.Game (record game { is_held = held })) (sym (or_false game.is_held))
+blank_so game = (game.former, ap (λ (held : Bool). desk.Game (record game { is_held = held })) (sym (or_false game.is_held)))
 
 entry_so : (game : GameSoFar) (entry : Result Outcome GameFault) → GoesOn game (entry_reply game entry)
 entry_so game (Err fault) = refused_so game fault
-entry_so game (Ok outcome) =
-    ap (λ (held : Bool). desk.Game (record { names = game.names; rules = game.rules; progress = after_all game.progress game.rules (outcome ∷ []); is_held = held })) (sym (or_false game.is_held))
+entry_so game (Ok outcome) = (
+  Some game.progress,
+  ap (λ (held : Bool). desk.Game (record { names = game.names; rules = game.rules; progress = after_all game.progress game.rules (outcome ∷ []); former = Some game.progress; is_held = held })) (sym (or_false game.is_held)),
+)
 
 either_so : (game : GameSoFar) (held : Bool) (entry : Result Outcome GameFault) → GoesOn game (if held then refusal (desk.Game game) G14 else entry_reply game entry)
 either_so game true entry = refused_so game G14
 either_so game false entry = entry_so game entry
 
-goes_on_one : (given : Rules) (game : GameSoFar) (seen : LineOfGame) (line : List ℕ) (reply : Reply) → is_begin seen ≡ false → IsReplyTo given (desk.Game game) seen line reply → GoesOn game reply
-goes_on_one given game Odd line reply other is = subst (λ (r : Reply). GoesOn game r) (sym is) (refused_so game G1)
-goes_on_one given game Blank line reply other is = subst (λ (r : Reply). GoesOn game r) (sym is) (blank_so game)
-goes_on_one given game (Begins words) line reply other is = absurd (cc)
-goes_on_one given game Entry line reply other is =
+goes_on_one : (given : Rules) (game : GameSoFar) (seen : LineOfGame) (line : List ℕ) (reply : Reply) → is_begin seen ≡ false → is_undo seen ≡ false → IsReplyTo given (desk.Game game) seen line reply → GoesOn game reply
+goes_on_one given game Odd line reply other keeps is = subst (λ (r : Reply). GoesOn game r) (sym is) (refused_so game G1)
+goes_on_one given game Blank line reply other keeps is = subst (λ (r : Reply). GoesOn game r) (sym is) (blank_so game)
+goes_on_one given game (Begins words) line reply other keeps is = absurd (cc)
+goes_on_one given game Undo line reply other keeps is = absurd (cc)
+goes_on_one given game Entry line reply other keeps is =
     subst (λ (r : Reply). GoesOn game r) (sym is) (either_so game game.is_held (entry_of game.names game.progress game.rules line))
 
 -- ---- more lines
@@ -65,43 +70,47 @@ or_assoc : (one two three : Bool) → ((one || two) || three) ≡ (one || (two |
 or_assoc true two three = refl
 or_assoc false two three = refl
 
-one_more : (game : GameSoFar) (outcome : Option Outcome) (refused others : Bool) (outcomes : List Outcome)
-    → gone_on (gone_on game (cons_option outcome []) refused) outcomes others ≡ gone_on game (cons_option outcome outcomes) (refused || others)
-one_more game None refused others outcomes =
-    ap (λ (held : Bool). record { names = game.names; rules = game.rules; progress = after_all game.progress game.rules outcomes; is_held = held }) (or_assoc game.is_held refused others)
-one_more game (Some outcome) refused others outcomes =
-    ap (λ (held : Bool). record { names = game.names; rules = game.rules; progress = after_all game.progress game.rules (outcome ∷ outcomes); is_held = held }) (or_assoc game.is_held refused others)
+one_more : (game : GameSoFar) (former later : Option Progress) (outcome : Option Outcome) (refused others : Bool) (outcomes : List Outcome)
+    → gone_on (gone_on game former (cons_option outcome []) refused) later outcomes others ≡ gone_on game later (cons_option outcome outcomes) (refused || others)
+one_more game former later None refused others outcomes =
+    ap (λ (held : Bool). record { names = game.names; rules = game.rules; progress = after_all game.progress game.rules outcomes; former = later; is_held = held }) (or_assoc game.is_held refused others)
+one_more game former later (Some outcome) refused others outcomes =
+    ap (λ (held : Bool). record { names = game.names; rules = game.rules; progress = after_all game.progress game.rules (outcome ∷ outcomes); former = later; is_held = held }) (or_assoc game.is_held refused others)
 
 pub goes_on_by_outcomes : GoesOnByOutcomes
-goes_on_by_outcomes given game [] replies last none are =
-    are.1 ∙ blank_so game ∙ ap (λ (rs : List Reply). desk.Game (gone_on game (outcomes_in rs) (list_any refuses rs))) (sym are.0)
-goes_on_by_outcomes given game (line ∷ lines) replies last none are =
+goes_on_by_outcomes given game [] replies last none keep are =
+    let blank = blank_so game in
+    (blank.0, are.1 ∙ blank.1 ∙ ap (λ (rs : List Reply). desk.Game (gone_on game blank.0 (outcomes_in rs) (list_any refuses rs))) (sym are.0))
+goes_on_by_outcomes given game (line ∷ lines) replies last none keep are =
     let reply = are.0 in
     let others = are.1 in
-    let one : GoesOn game reply = goes_on_one given game (seen_in line) line reply none.0 are.2 in
-    let after = gone_on game (cons_option reply.outcome []) (refuses reply) in
-    let rest = goes_on_by_outcomes given after lines others last none.1 (subst (λ (d : GameDesk). AreReplies given d lines others last) one are.4) in
-    rest ∙ ap desk.Game (one_more game reply.outcome (refuses reply) (list_any refuses others) (outcomes_in others))
-    ∙ ap (λ (rs : List Reply). desk.Game (gone_on game (outcomes_in rs) (list_any refuses rs))) (sym are.3)
+    let one : GoesOn game reply = goes_on_one given game (seen_in line) line reply none.0 keep.0 are.2 in
+    let after = gone_on game one.0 (cons_option reply.outcome []) (refuses reply) in
+    let rest = goes_on_by_outcomes given after lines others last none.1 keep.1 (subst (λ (d : GameDesk). AreReplies given d lines others last) one.1 are.4) in (
+      rest.0,
+      rest.1 ∙ ap desk.Game (one_more game one.0 rest.0 reply.outcome (refuses reply) (list_any refuses others) (outcomes_in others))
+          ∙ ap (λ (rs : List Reply). desk.Game (gone_on game rest.0 (outcomes_in rs) (list_any refuses rs))) (sym are.3),
+    )
 
 -- ---- behind a refused line
 
-none_taken : (given : Rules) (game : GameSoFar) (seen : LineOfGame) (line : List ℕ) (reply : Reply) → is_begin seen ≡ false → game.is_held ≡ true → IsReplyTo given (desk.Game game) seen line reply → reply.outcome ≡ None
-none_taken given game Odd line reply other held is = ap (λ (r : Reply). r.outcome) is
-none_taken given game Blank line reply other held is = ap (λ (r : Reply). r.outcome) is
-none_taken given game (Begins words) line reply other held is = absurd (cc)
-none_taken given game Entry line reply other held is =
+none_taken : (given : Rules) (game : GameSoFar) (seen : LineOfGame) (line : List ℕ) (reply : Reply) → is_begin seen ≡ false → is_undo seen ≡ false → game.is_held ≡ true → IsReplyTo given (desk.Game game) seen line reply → reply.outcome ≡ None
+none_taken given game Odd line reply other keeps held is = ap (λ (r : Reply). r.outcome) is
+none_taken given game Blank line reply other keeps held is = ap (λ (r : Reply). r.outcome) is
+none_taken given game (Begins words) line reply other keeps held is = absurd (cc)
+none_taken given game Undo line reply other keeps held is = absurd (cc)
+none_taken given game Entry line reply other keeps held is =
     ap (λ (r : Reply). r.outcome) is
     ∙ ap (λ (b : Bool). (if b then refusal (desk.Game game) G14 else entry_reply game (entry_of game.names game.progress game.rules line)).outcome) held
 
 pub held_takes_none : HeldTakesNone
-held_takes_none given game [] replies last none held are = ap outcomes_in are.0
-held_takes_none given game (line ∷ lines) replies last none held are =
+held_takes_none given game [] replies last none keep held are = ap outcomes_in are.0
+held_takes_none given game (line ∷ lines) replies last none keep held are =
     let reply = are.0 in
     let others = are.1 in
-    let one : GoesOn game reply = goes_on_one given game (seen_in line) line reply none.0 are.2 in
-    let no_outcome = none_taken given game (seen_in line) line reply none.0 held are.2 in
-    let after = gone_on game (cons_option reply.outcome []) (refuses reply) in
+    let one : GoesOn game reply = goes_on_one given game (seen_in line) line reply none.0 keep.0 are.2 in
+    let no_outcome = none_taken given game (seen_in line) line reply none.0 keep.0 held are.2 in
+    let after = gone_on game one.0 (cons_option reply.outcome []) (refuses reply) in
     let still : after.is_held ≡ true = ap (λ (b : Bool). b || refuses reply) held in
-    let rest = held_takes_none given after lines others last none.1 still (subst (λ (d : GameDesk). AreReplies given d lines others last) one are.4) in
+    let rest = held_takes_none given after lines others last none.1 keep.1 still (subst (λ (d : GameDesk). AreReplies given d lines others last) one.1 are.4) in
     ap outcomes_in are.3 ∙ ap (λ (outcome : Option Outcome). cons_option outcome (outcomes_in others)) no_outcome ∙ rest

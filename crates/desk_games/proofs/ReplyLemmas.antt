@@ -12,7 +12,7 @@ use Rattle.desk_lines.specs.declared.line_kind.LineKind.{LineKind}
 use Rattle.desk_lines.specs.declared.report.DeskReport.{DeskReport}
 use Rattle.desk_lines.specs.Telling.{IsToldAs, answers_in, report_of, report_with}
 use Rattle.desk_lines.proofs.TellingLemmas.{report_of_more}
-use Rattle.desk_games.specs.Replies.{LineOfGame, Odd, Blank, Begins, Entry, line_by, seen_in, Reply, blank_reply, refusal, other_reply, IsReply, IsReplyTo, AreReplies}
+use Rattle.desk_games.specs.Replies.{LineOfGame, Odd, Blank, Begins, Undo, Entry, says_undo, line_by, seen_in, Reply, blank_reply, refusal, undo_reply, other_reply, IsReply, IsReplyTo, AreReplies}
 use Rattle.desk_games.specs.Texts.{answer_text, number_if, answers_from, kind_in, Puts, AnswersLines}
 use Rattle.desk_games.specs.declared.desk.GameDesk.{GameDesk}
 use Rattle.desk_games.specs.declared.games.Games.{Games}
@@ -25,8 +25,11 @@ seen_odd line odd = ap (λ (b : Bool). if b then Odd else line_by (said_in line)
 seen_by : (line : List ℕ) (words : List (List ℕ)) → is_odd line ≡ false → said_in line ≡ words → seen_in line ≡ line_by words
 seen_by line words even said = ap (λ (b : Bool). if b then Odd else line_by (said_in line)) even ∙ ap line_by said
 
-begins_if : (first : List ℕ) (words : List (List ℕ)) (is : Bool) → bytes_eq first (codes "game") ≡ is → line_by (first ∷ words) ≡ (if is then Begins words else Entry)
-begins_if first words is same = ap (λ (b : Bool). if b then Begins words else Entry) same
+begins_if : (first : List ℕ) (words : List (List ℕ)) (is : Bool) → bytes_eq first (codes "game") ≡ is → line_by (first ∷ words) ≡ (if is then Begins words else if says_undo first words then Undo else Entry)
+begins_if first words is same = ap (λ (b : Bool). if b then Begins words else if says_undo first words then Undo else Entry) same
+
+undoes_if : (first : List ℕ) (words : List (List ℕ)) (is : Bool) → bytes_eq first (codes "game") ≡ false → says_undo first words ≡ is → line_by (first ∷ words) ≡ (if is then Undo else Entry)
+undoes_if first words is other same = begins_if first words false other ∙ ap (λ (b : Bool). if b then Undo else Entry) same
 
 reply_by : (given : Rules) (now : GameDesk) (line : List ℕ) (seen : LineOfGame) (reply : Reply) → seen_in line ≡ seen → IsReplyTo given now seen line reply → IsReply given now line reply
 reply_by given now line seen reply seen_is is = subst (λ (s : LineOfGame). IsReplyTo given now s line reply) (sym seen_is) is
@@ -42,10 +45,15 @@ pub begin_replied : (given : Rules) (now : GameDesk) (line first rest : List ℕ
 begin_replied given now line first rest reply even said same is =
     reply_by given now line (Begins (said_in rest)) reply (seen_by line (first ∷ said_in rest) even said ∙ begins_if first (said_in rest) true same) is
 
+pub undo_replied : (given : Rules) (now : GameDesk) (line first rest : List ℕ) → is_odd line ≡ false → said_in line ≡ first ∷ said_in rest → bytes_eq first (codes "game") ≡ false
+    → says_undo first (said_in rest) ≡ true → IsReply given now line (undo_reply now)
+undo_replied given now line first rest even said other undo =
+    reply_by given now line Undo (undo_reply now) (seen_by line (first ∷ said_in rest) even said ∙ undoes_if first (said_in rest) true other undo) refl
+
 pub entry_replied : (given : Rules) (now : GameDesk) (line first rest : List ℕ) → is_odd line ≡ false → said_in line ≡ first ∷ said_in rest → bytes_eq first (codes "game") ≡ false
-    → IsReply given now line (other_reply now line)
-entry_replied given now line first rest even said other =
-    reply_by given now line Entry (other_reply now line) (seen_by line (first ∷ said_in rest) even said ∙ begins_if first (said_in rest) false other) refl
+    → says_undo first (said_in rest) ≡ false → IsReply given now line (other_reply now line)
+entry_replied given now line first rest even said other keeps =
+    reply_by given now line Entry (other_reply now line) (seen_by line (first ∷ said_in rest) even said ∙ undoes_if first (said_in rest) false other keeps) refl
 
 -- the answer to a line `game` stands behind the end of the game before it
 pub put_behind_end : (before mid after ended answer : List ℕ) → mid ≡ before ++ ended → after ≡ mid ++ (answer ++ 10 ∷ []) → after ≡ before ++ ((ended ++ answer) ++ 10 ∷ [])

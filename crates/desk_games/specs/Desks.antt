@@ -13,7 +13,7 @@ use Rattle.desk_games.specs.declared.desk.GameDesk.TheVariants as desk
 
 -- before the first deal of a game with these names and rules
 abbrev pub begun : GameSaid → GameSoFar
-begun said = record { names = said.names; rules = said.rules; progress = first_progress said.rules; is_held = false }
+begun said = record { names = said.names; rules = said.rules; progress = first_progress said.rules; former = None; is_held = false }
 
 -- behind a line `game`; where it is refused the game has no state
 abbrev pub begun_desk : Option GameSaid → GameDesk

@@ -1,5 +1,5 @@
 -- What each line of a text of games comes to.
-use Rattle.std.specs.Prelude.{◌≡◌, ℕ, List, [], ◌∷◌, codes, Option, None, Some, Result, Ok, Err, if◌then◌else◌}
+use Rattle.std.specs.Prelude.{◌≡◌, ℕ, List, [], ◌∷◌, codes, Bool, false, Option, None, Some, Result, Ok, Err, if◌then◌else◌}
 use Rattle.std.specs.Str.{bytes_eq}
 use Rattle.riichi_hand.specs.Rules.{Rules}
 use Rattle.riichi_table.specs.Players.{of_player}
@@ -8,17 +8,17 @@ use Rattle.riichi_table.specs.declared.outcome.Outcome.{Outcome}
 use Rattle.riichi_table.specs.declared.outcome.Outcome.TheVariants.{Penalty, End}
 use Rattle.riichi_game.specs.Games.{after_one}
 use Rattle.riichi_game.specs.declared.game.Progress.{Progress}
-use Rattle.riichi_game_text.specs.Answers.{begun_text, deal_text, penalty_text}
+use Rattle.riichi_game_text.specs.Answers.{begun_text, deal_text, penalty_text, stands_text}
 use Rattle.riichi_game_text.specs.Entries.{entry_of, is_odd}
 use Rattle.riichi_game_text.specs.FaultTexts.{refused_text}
 use Rattle.riichi_game_text.specs.GameLines.{GameSaid, game_of, hand_word}
 use Rattle.riichi_game_text.specs.TableWords.{IsHandRules}
 use Rattle.riichi_game_text.specs.Words.{said_in}
 use Rattle.riichi_game_text.specs.declared.fault.GameFault.{GameFault}
-use Rattle.riichi_game_text.specs.declared.fault.GameFault.TheVariants.{G1, G2, G3, G14}
+use Rattle.riichi_game_text.specs.declared.fault.GameFault.TheVariants.{G1, G2, G3, G4, G14}
 use Rattle.desk_lines.specs.declared.line_kind.LineKind.{LineKind}
 use Rattle.desk_lines.specs.declared.line_kind.LineKind.TheVariants.{NoRecord, Answered, Refused}
-use Rattle.desk_games.specs.Played.{GameSoFar}
+use Rattle.desk_games.specs.Played.{GameSoFar, release, come_back}
 use Rattle.desk_games.specs.Desks.{begun_desk, held, is_held, end_of}
 use Rattle.desk_games.specs.declared.desk.GameDesk.{GameDesk}
 use Rattle.desk_games.specs.declared.desk.GameDesk.TheVariants as desk
@@ -29,13 +29,20 @@ pub data LineOfGame : Type 0 where
   Odd : LineOfGame
   Blank : LineOfGame
   Begins : List (List ℕ) → LineOfGame
+  Undo : LineOfGame
   Entry : LineOfGame
+
+-- the word `undo` stands alone
+abbrev pub says_undo : List ℕ → List (List ℕ) → Bool
+says_undo first [] = bytes_eq first (codes "undo")
+says_undo first (word ∷ words) = false
 
 abbrev pub line_by : List (List ℕ) → LineOfGame
 line_by [] = Blank
-line_by (first ∷ words) = if bytes_eq first (codes "game") then Begins words else Entry
+line_by (first ∷ words) = if bytes_eq first (codes "game") then Begins words else if says_undo first words then Undo else Entry
 
--- A line may be odd. Else it has no words, or its first word is `game` and these words stand behind it, or another one.
+-- A line may be odd. Else it has no words; or its first word is `game` and these words stand behind it; or it is the word `undo`; or it
+-- says something else.
 abbrev pub seen_in : List ℕ → LineOfGame
 seen_in line = if is_odd line then Odd else line_by (said_in line)
 
@@ -95,7 +102,7 @@ accept game outcome =
       answer = outcome_answer game.names game.progress after outcome;
       outcome = Some outcome;
       kind = Answered;
-      desk = desk.Game (record game { progress = after });
+      desk = desk.Game (record game { progress = after; former = Some game.progress });
     }
 
 abbrev pub entry_reply : GameSoFar → Result Outcome GameFault → Reply
@@ -107,7 +114,35 @@ game_reply game line =
     if game.is_held then refusal (desk.Game game) G14
     else entry_reply game (entry_of game.names game.progress game.rules line)
 
--- a line that isn't odd and has a first word other than `game`
+-- ---- where a line is taken back
+
+-- the answer is the state that the game is in again
+abbrev pub back_reply : GameSoFar → Reply
+back_reply game = record {
+  ended = None;
+  answer = Some (stands_text game.progress.state);
+  outcome = None;
+  kind = Answered;
+  desk = desk.Game game;
+}
+
+-- the last accepted line, where it wasn't taken back before
+abbrev pub last_reply : GameSoFar → Option Progress → Reply
+last_reply game None = refusal (desk.Game game) G4
+last_reply game (Some before) = back_reply (come_back game before)
+
+-- the refused line and those behind it, or else the last accepted one
+abbrev pub game_undo : GameSoFar → Reply
+game_undo game = if game.is_held then back_reply (release game) else last_reply game game.former
+
+abbrev pub undo_reply : GameDesk → Reply
+undo_reply desk.NoGame = refusal desk.NoGame G2
+undo_reply desk.Refused = refusal desk.Refused G2
+undo_reply (desk.Game game) = game_undo game
+
+-- ---- together
+
+-- a line that isn't odd, and whose first word is neither `game` nor a lone `undo`
 abbrev pub other_reply : GameDesk → List ℕ → Reply
 other_reply desk.NoGame line = refusal desk.NoGame G2
 other_reply desk.Refused line = refusal desk.Refused G2
@@ -119,6 +154,7 @@ IsReplyTo given now Odd line reply = reply ≡ refusal now G1
 IsReplyTo given now Blank line reply = reply ≡ blank_reply now
 IsReplyTo given now (Begins words) line reply =
     (hand : Option Rules) × IsHandRules given (hand_word words) hand × (reply ≡ begin_reply now (game_of hand words))
+IsReplyTo given now Undo line reply = reply ≡ undo_reply now
 IsReplyTo given now Entry line reply = reply ≡ other_reply now line
 
 -- what a line comes to behind a text of games, under the given rules for hands

@@ -4,7 +4,7 @@ ghost use Rattle.riichi_game_text.specs.declared.fault.GameFault.TheVariants.{G2
 ghost use Rattle.desk_lines.specs.Outbox.{HasRoomForLine, HasRoomForText};
 ghost use Rattle.desk_lines.specs.Telling.{with_line_feed};
 ghost use Rattle.desk_games.specs.Desks as spec;
-ghost use Rattle.desk_games.specs.Replies.{refusal, other_reply};
+ghost use Rattle.desk_games.specs.Replies.{refusal, undo_reply, other_reply};
 ghost use Rattle.desk_games.specs.Texts.{Puts};
 
 use crate::game_at_hand::GameAtHand;
@@ -89,7 +89,19 @@ impl GameDesk {
         LineKind::Refused
     }
 
-    /// Takes a line that isn't odd and has a first word other than `game`, and puts its answer.
+    /// Takes the line `undo`, and puts its answer.
+    pub(crate) fn undo(&mut self, front: Option<u64>, outbox: &mut Outbox) -> LineKind
+        requires { HasRoomForText outbox.old }
+        ensures { Puts front (undo_reply self.old) result
+            outbox.old.bytes.items outbox.new.bytes.items self.new }
+    {
+        match self {
+            GameDesk::Game(game) => game.undo(front, outbox),
+            _ => self.refuse(front, GameFault::G2, outbox),
+        }
+    }
+
+    /// Takes a line that isn't odd, and whose first word is neither `game` nor a lone `undo`, and puts its answer.
     pub(crate) fn take(&mut self, front: Option<u64>, line: &[u8], outbox: &mut Outbox) -> LineKind
         requires { HasRoomForText outbox.old }
         ensures { Puts front (other_reply self.old line.now) result

@@ -1,21 +1,24 @@
 //! A game of a text so far.
-ghost use Rattle.std.specs.Prelude.{◌≡◌, ◌+◌, ◌≤◌, ◌++◌};
+ghost use Rattle.std.specs.Prelude.{◌≡◌, ◌+◌, ◌≤◌, ◌++◌, Ok};
 ghost use Rattle.arrayvec.specs.ArrayString.{array_string_len};
+ghost use Rattle.riichi_game.specs.Faults.{next_of};
 ghost use Rattle.riichi_game_text.specs.GameLines.{said_by};
 ghost use Rattle.riichi_game_text.specs.Names.{names_in};
 ghost use Rattle.desk_lines.specs.Outbox.{HasRoomForText};
 ghost use Rattle.desk_games.specs.Played.{hold};
 ghost use Rattle.desk_games.specs.declared.desk.GameDesk.TheVariants.{Game};
 ghost use Rattle.desk_games.specs.Desks.{begun, end_text};
-ghost use Rattle.desk_games.specs.Replies.{accept, game_reply};
+ghost use Rattle.desk_games.specs.Replies.{accept, game_reply, game_undo};
 ghost use Rattle.desk_games.specs.Texts.{Puts};
 
-use crate::puts::{put_outcome, put_refused};
+use crate::puts::{put_outcome, put_refused, put_stands};
 use desk_lines::{LineKind, Outbox};
-use riichi_game::{Progress, after_all};
-use riichi_game_text::{GameFault, GameLine, MOST_OVER, Names, push_over, push_stands, read_entry};
+use riichi_game::Progress;
+use riichi_game_text::{
+    AcceptedLine, GameFault, GameLine, MOST_OVER, Names, push_over, push_stands, read_entry,
+};
 use riichi_places::final_points;
-use riichi_table::{Outcome, TableRules};
+use riichi_table::TableRules;
 use riichi_text::{ANSWER_ROOM, AnswerText};
 use std::marker::Model;
 
@@ -29,6 +32,8 @@ pub struct GameAtHand {
     names: Names,
     rules: TableRules,
     progress: Progress,
+    /// How far the game had come before its last accepted line, where that one can be taken back.
+    former: Option<Progress>,
     is_held: bool,
 }
 
@@ -38,7 +43,7 @@ impl Model for GameAtHand {
 
     ghost Value = { GameSoFar };
 
-    ghost view = { λ game. record { names = names_in game.names; rules = game.rules; progress = game.progress; is_held = game.is_held } };
+    ghost view = { λ game. record { names = names_in game.names; rules = game.rules; progress = game.progress; former = game.former; is_held = game.is_held } };
 }
 
 impl GameAtHand {
@@ -50,6 +55,7 @@ impl GameAtHand {
             names: line.names,
             rules: line.rules,
             progress: Progress::first(&line.rules),
+            former: None,
             is_held: false,
         }
     }
@@ -105,7 +111,33 @@ impl GameAtHand {
         }
     }
 
-    /// Takes a line of the game that isn't odd and has a first word other than `game`, and puts its answer.
+    /// Takes the refused lines back, or else the last accepted one, and puts the answer.
+    pub(crate) fn undo(&mut self, front: Option<u64>, outbox: &mut Outbox) -> LineKind
+        requires { HasRoomForText outbox.old }
+        ensures { Puts front (game_undo self.old) result
+            outbox.old.bytes.items outbox.new.bytes.items (Game self.new) }
+    {
+        if self.is_held {
+            self.is_held = false;
+            put_stands(front, &self.progress.state, outbox);
+            return LineKind::Answered;
+        }
+        match self.former {
+            None => {
+                self.hold();
+                put_refused(front, GameFault::G4, outbox);
+                LineKind::Refused
+            }
+            Some(before) => {
+                self.progress = before;
+                self.former = None;
+                put_stands(front, &before.state, outbox);
+                LineKind::Answered
+            }
+        }
+    }
+
+    /// Takes a line of the game that isn't odd, and whose first word is neither `game` nor a lone `undo`, and puts its answer.
     pub(crate) fn take(&mut self, front: Option<u64>, line: &[u8], outbox: &mut Outbox) -> LineKind
         requires { HasRoomForText outbox.old }
         ensures { Puts front (game_reply self.old line.now) result
@@ -116,7 +148,7 @@ impl GameAtHand {
             return LineKind::Refused;
         }
         match read_entry(&self.names, &self.progress, &self.rules, line) {
-            Ok(outcome) => self.accept(front, &outcome, outbox),
+            Ok(accepted) => self.accept(front, &accepted, outbox),
             Err(fault) => {
                 self.hold();
                 put_refused(front, fault, outbox);
@@ -125,15 +157,23 @@ impl GameAtHand {
         }
     }
 
-    /// Goes on by an outcome that a line says, and puts its answer.
-    fn accept(&mut self, front: Option<u64>, outcome: &Outcome, outbox: &mut Outbox) -> LineKind
-        requires { HasRoomForText outbox.old }
-        ensures { Puts front (accept self.old outcome.now) result
+    /// Goes on by what an accepted line says, and puts its answer.
+    fn accept(
+        &mut self,
+        front: Option<u64>,
+        accepted: &AcceptedLine,
+        outbox: &mut Outbox,
+    ) -> LineKind
+        requires room { HasRoomForText outbox.old }
+        requires after { next_of self.old.progress self.old.rules accepted.now.outcome
+            ≡ Ok accepted.now.after }
+        ensures { Puts front (accept self.old accepted.now.outcome) result
             outbox.old.bytes.items outbox.new.bytes.items (Game self.new) }
     {
         let before = self.progress;
-        self.progress = after_all(&before, &self.rules, &[*outcome]);
-        put_outcome(front, &self.names, &before, &self.progress, outcome, outbox);
+        self.progress = accepted.after;
+        self.former = Some(before);
+        put_outcome(front, &self.names, &before, accepted, outbox);
         LineKind::Answered
     }
 }

@@ -4,6 +4,7 @@ ghost use Rattle.riichi_game_text.specs.Words.{said_in};
 ghost use Rattle.desk_lines.specs.Outbox.{HasRoomForLine};
 ghost use Rattle.desk_games.specs.declared.desk.GameDesk.TheVariants.{NoGame};
 ghost use Rattle.desk_games.specs.Replies.{Reply, IsReply, IsReplyTo, Begins};
+ghost use Rattle.desk_games.specs.Replies as replies;
 ghost use Rattle.desk_games.specs.Texts.{Puts};
 ghost use Rattle.desk_games.specs.Texts as spec;
 
@@ -61,6 +62,7 @@ impl Games {
         match next_said(line) {
             None => LineKind::NoRecord,
             Some((first, words)) if first == b"game".as_slice() => self.begin(front, words, outbox),
+            Some((first, words)) if says_undo(first, words) => self.desk.undo(front, outbox),
             Some(_) => self.desk.take(front, line, outbox),
         }
     }
@@ -88,6 +90,13 @@ impl Games {
             }
         }
     }
+}
+
+/// Whether a line has the first word `undo` and none behind it.
+fn says_undo(first: &[u8], behind: &[u8]) -> bool
+    ensures { result ≡ replies.says_undo first.now (said_in behind.now) }
+{
+    first == b"undo".as_slice() && next_said(behind).is_none()
 }
 
 /// The number of a line, where answers are numbered.

@@ -1,5 +1,5 @@
 //! Laws over texts of games.
-ghost use Rattle.desk_games.specs.Laws.{AnswersAreOne, GameComesFromItsLines, GoesOnByOutcomes, HeldTakesNone};
+ghost use Rattle.desk_games.specs.Laws.{AnswersAreOne, GameComesFromItsLines, GoesOnByOutcomes, HeldTakesNone, UndoReleases, UndoTakesTheLastBack};
 
 /// What a text of games is answered follows from its lines.
 #[tactic(auto, using(crate::proofs::OneAnswer::answers_are_one))]
@@ -14,4 +14,10 @@ pub fn a_game_comes_from_its_lines()
     ensures outcomes { GoesOnByOutcomes }
     ensures held { HeldTakesNone }
     ensures whole { GameComesFromItsLines }
+{}
+
+/// A line `undo` takes the last line of the game back: a refused one with those that were refused for it, or an accepted one.
+pub fn undo_takes_the_last_line_back()
+    ensures accepted { UndoTakesTheLastBack }
+    ensures refused { UndoReleases }
 {}

@@ -2,7 +2,7 @@
 ghost use Rattle.std.specs.Prelude.{◌≡◌, ◌++◌, ◌≤◌, Some};
 ghost use Rattle.arrayvec.specs.ArrayString.{array_string_len};
 ghost use Rattle.riichi_table.specs.Players.{of_player};
-ghost use Rattle.riichi_game_text.specs.Answers.{begun_text, deal_text, penalty_text};
+ghost use Rattle.riichi_game_text.specs.Answers.{begun_text, deal_text, penalty_text, stands_text};
 ghost use Rattle.riichi_game_text.specs.FaultTexts.{refused_text};
 ghost use Rattle.riichi_game_text.specs.Names.{names_in};
 ghost use Rattle.desk_lines.specs.Outbox.{HasRoomForText};
@@ -13,7 +13,7 @@ ghost use Rattle.desk_games.specs.Texts.{behind_front, front_text};
 use desk_lines::Outbox;
 use riichi_game::Progress;
 use riichi_game_text::{
-    GameFault, GameLine, Names, push_begun, push_deal, push_penalty, push_refused,
+    AcceptedLine, GameFault, GameLine, Names, push_begun, push_deal, push_penalty, push_refused, push_stands,
 };
 use riichi_table::{ByPlayer, GameState, Outcome, Player};
 use riichi_text::{AnswerText, MOST_U64, push_number};
@@ -55,25 +55,35 @@ pub(crate) fn put_begun(front: Option<u64>, line: &GameLine, outbox: &mut Outbox
     outbox.put_text();
 }
 
-/// Puts the answer to an outcome, where it has one of its own.
+/// Puts the answer to an accepted line, where it has one of its own.
 pub(crate) fn put_outcome(
     front: Option<u64>,
     names: &Names,
     before: &Progress,
-    after: &Progress,
-    outcome: &Outcome,
+    accepted: &AcceptedLine,
     outbox: &mut Outbox,
 )
     requires { HasRoomForText outbox.old }
-    ensures { let answer = outcome_answer (names_in names.now) before.now after.now outcome.now in
+    ensures { let answer = outcome_answer (names_in names.now) before.now accepted.now.after accepted.now.outcome in
         outbox.new.bytes.items
         ≡ outbox.old.bytes.items ++ with_line_feed (behind_front (front_text front) answer) }
 {
-    match outcome {
+    match &accepted.outcome {
         Outcome::End => {}
         Outcome::Penalty { player, points } => put_penalty(front, names, *player, *points, outbox),
-        _ => put_deal(front, &before.state, &after.state.points, outbox),
+        _ => put_deal(front, &before.state, &accepted.after.state.points, outbox),
     }
+}
+
+/// Puts the state that a game is in again, where a line is taken back.
+pub(crate) fn put_stands(front: Option<u64>, state: &GameState, outbox: &mut Outbox)
+    requires { HasRoomForText outbox.old }
+    ensures { outbox.new.bytes.items ≡ outbox.old.bytes.items
+        ++ with_line_feed (Some (front_text front ++ stands_text state.now)) }
+{
+    begin_text(front, &mut outbox.text);
+    push_stands(&mut outbox.text, state);
+    outbox.put_text();
 }
 
 fn put_penalty(front: Option<u64>, names: &Names, player: Player, points: u32, outbox: &mut Outbox)

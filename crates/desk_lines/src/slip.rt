@@ -1,5 +1,5 @@
 //! Lines that look like a profile line.
-ghost use Rattle.std.specs.Prelude.{◌≡◌};
+ghost use Rattle.std.specs.Prelude.{◌≡◌, false, IsTrue};
 ghost use Rattle.desk_lines.specs.Slips.{begins_word, is_like_profile, without_mark, without_space};
 
 /// How much of a line is looked at: more than a profile line with a byte order mark has.
@@ -10,7 +10,16 @@ const FRONT: usize = 32;
 pub(crate) fn is_like_profile(line: &[u8]) -> bool
     ensures { result ≡ is_like_profile line.now }
 {
-    begins_word(without_space(without_mark(&line[..FRONT.min(line.len())])))
+    !begins_job(line)
+        && begins_word(without_space(without_mark(&line[..FRONT.min(line.len())])))
+}
+
+/// Whether a line begins with the first letter of a job, as nearly each does: then no other word stands at its front.
+#[tactic(auto, using(crate::proofs::SlipLemmas::job_first), unfolding(crate::specs::Slips::is_like_profile))]
+fn begins_job(line: &[u8]) -> bool
+    ensures { IsTrue result → is_like_profile line.now ≡ false }
+{
+    matches!(line, [b'w' | b's', ..])
 }
 
 fn without_mark(text: &[u8]) -> &[u8]

@@ -1,4 +1,5 @@
 //! What the system said of the stream that failed last.
+use crate::opening::{Opening, tell_games};
 use crate::progress::Progress;
 use std::cell::Cell;
 use std::io::{self, Eprint, ErrorKind, Print, Printer, Read, Write};
@@ -107,10 +108,12 @@ impl<R: Read> Read for Noted<'_, '_, R> {
     }
 }
 
-/// A reader of record lines: its failures are noted, and how far it is read is shown on standard error, up to its end.
+/// A reader of record lines: its failures are noted, and how far it is read is shown on standard error, up to its end. Where the
+/// lines are those of a game, it says so there.
 #[derive(Drop)]
 pub struct Watched<'n, 'a, R, T> {
     reader: Noted<'n, 'a, T>,
+    opening: Opening,
     progress: &'n Progress<'n, R>,
 }
 
@@ -124,6 +127,7 @@ impl<'a> Notes<'a> {
     ) -> Watched<'n, 'a, R, T> {
         Watched {
             reader: self.reader(name, stream),
+            opening: Opening::new(),
             progress,
         }
     }
@@ -136,7 +140,12 @@ impl<R: Eprint + Clock, T: Read> Read for Watched<'_, '_, R, T> {
         let count = self.reader.read(buffer)?;
         match buffer.get(..count) {
             None | Some([]) => self.progress.wipe(),
-            Some(bytes) => self.progress.read(bytes),
+            Some(bytes) => {
+                if self.opening.is_game_by(bytes) {
+                    tell_games(self.progress, self.reader.name);
+                }
+                self.progress.read(bytes);
+            }
         }
         Ok(count)
     }

@@ -13,7 +13,7 @@ use Rattle.riichi_table.specs.declared.outcome.Outcome.{Outcome}
 use Rattle.riichi_table.specs.declared.outcome.Outcome.TheVariants.{Ron, Tsumo, Draw, Abort, Chombo, Penalty, Stands, End}
 use Rattle.riichi_settle.specs.Settled.{change_by, sticks_by, moves_as_played, moves_of}
 use Rattle.riichi_game.specs.Outcomes.{is_penalty}
-use Rattle.riichi_game.specs.Following.{stays, counters_with, points_after, sticks_after, counters_after, round_after, dealer_after, state_after}
+use Rattle.riichi_game.specs.Following.{stays, counters_with, points_after, sticks_after, counters_after, round_by, dealer_by, state_after}
 use Rattle.riichi_game.specs.Ends.{over_after}
 use Rattle.riichi_game.specs.Faults.{are_kept, are_few, penalties_after, fault_of, progress_after, unless, next_of}
 use Rattle.riichi_game.specs.Games.{or_as_before, after_one}
@@ -62,7 +62,7 @@ settled_under_its_state progress after rules outcome player deal ok =
     ap (λ (state : GameState). of_player state.points player) (next_state progress after rules outcome ok) ∙ points_move progress.state rules outcome player deal
 
 written_state : (state : GameState) (rules : TableRules) (written : GameState) → state_after state rules (Stands written) ≡ written
-unfolding points_after sticks_after counters_after counters_with round_after dealer_after
+unfolding points_after sticks_after counters_with round_by dealer_by
 written_state state rules written = refl
 
 pub stands_as_written : StandsAsWritten
@@ -115,7 +115,7 @@ unfolding sticks_after moves_of moves_as_played
 penalty_sticks state rules player points = same_sticks state.sticks
 
 pub penalty_changes_no_state : PenaltyChangesNoState
-unfolding counters_after counters_with round_after dealer_after stays
+unfolding counters_with round_by dealer_by stays
 penalty_changes_no_state state rules player points =
     λ k. record {
       points = penalty_points state rules player points k;

@@ -64,16 +64,23 @@ unfoldable pub sticks_after : GameState → TableRules → Outcome → ℕ
 sticks_after state rules (Stands written) = written.sticks
 sticks_after state rules outcome = sticks_by state.sticks (moves_of state rules outcome)
 
-unfoldable pub counters_after : GameState → TableRules → Outcome → ℕ
+abbrev pub counters_after : GameState → TableRules → Outcome → ℕ
 counters_after state rules outcome = counters_with state.counters state.dealer (as_played rules outcome)
 
-unfoldable pub round_after : GameState → TableRules → Outcome → Wind
-round_after state rules (Stands written) = written.round
-round_after state rules outcome = if stays_after state rules outcome then state.round else round_behind state.round state.dealer
+-- where the dealer stays or doesn't
+unfoldable pub round_by : GameState → Bool → Outcome → Wind
+round_by state stays (Stands written) = written.round
+round_by state stays outcome = if stays then state.round else round_behind state.round state.dealer
 
-unfoldable pub dealer_after : GameState → TableRules → Outcome → Player
-dealer_after state rules (Stands written) = written.dealer
-dealer_after state rules outcome = if stays_after state rules outcome then state.dealer else after state.dealer
+unfoldable pub dealer_by : GameState → Bool → Outcome → Player
+dealer_by state stays (Stands written) = written.dealer
+dealer_by state stays outcome = if stays then state.dealer else after state.dealer
+
+abbrev pub round_after : GameState → TableRules → Outcome → Wind
+round_after state rules outcome = round_by state (stays_after state rules outcome) outcome
+
+abbrev pub dealer_after : GameState → TableRules → Outcome → Player
+dealer_after state rules outcome = dealer_by state (stays_after state rules outcome) outcome
 
 -- what the table shows next; a penalty and the end change nothing of it
 abbrev pub state_after : GameState → TableRules → Outcome → GameState

@@ -5,5 +5,6 @@ pub mod Line
 pub mod Following
 pub mod Ends
 pub mod Faults
+pub mod Consequences
 pub mod Games
 pub mod Laws

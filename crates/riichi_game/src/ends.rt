@@ -2,39 +2,11 @@
 ghost use Rattle.std.specs.Prelude.{◌≡◌, ◌≤◌};
 ghost use Rattle.riichi_game.specs.Ends as spec;
 
-use crate::following::{points_after, stays_after};
 use riichi_hand::Wind;
-use riichi_settle::as_played;
 use riichi_table::{ByPlayer, GameState, LastRound, Outcome, Player, TableRules};
 
-/// Whether the game is over after an outcome, where it is `over` before.
-#[tactic(auto, unfolding(crate::specs::Ends::over_after))]
-pub(crate) fn over_after(
-    over: bool,
-    state: &GameState,
-    rules: &TableRules,
-    outcome: &Outcome,
-) -> bool
-    ensures { result ≡ spec.over_after over state.now rules.now outcome.now }
-{
-    match outcome {
-        Outcome::End => true,
-        Outcome::Penalty { .. } => over,
-        Outcome::Stands { .. } => over,
-        _ => is_over_by_deal(state, rules, outcome),
-    }
-}
-
-fn is_over_by_deal(state: &GameState, rules: &TableRules, outcome: &Outcome) -> bool
-    ensures { result ≡ spec.is_over_by_deal state.now rules.now outcome.now }
-{
-    let win_or_draw = is_win_or_draw(&as_played(rules, outcome));
-    let stays = stays_after(state, rules, outcome);
-    let points = points_after(state, rules, outcome);
-    is_over_with(rules, state, win_or_draw, stays, &points)
-}
-
-fn is_win_or_draw(played: &Outcome) -> bool
+/// Whether an outcome, as it is played, is a win or a draw.
+pub(crate) fn is_win_or_draw(played: &Outcome) -> bool
     ensures { result ≡ spec.is_win_or_draw played.now }
 {
     match played {
@@ -45,8 +17,9 @@ fn is_win_or_draw(played: &Outcome) -> bool
     }
 }
 
+/// Whether a deal ends the game, by what comes of it.
 #[tactic(auto, unfolding(crate::specs::Ends::is_over_with))]
-fn is_over_with(
+pub(crate) fn is_over_with(
     rules: &TableRules,
     state: &GameState,
     win_or_draw: bool,

@@ -1,10 +1,9 @@
 //! What the table shows after an outcome.
-ghost use Rattle.std.specs.Prelude.{◌≡◌, ◌≤◌};
+ghost use Rattle.std.specs.Prelude.{◌≡◌};
 ghost use Rattle.riichi_game.specs.Following as spec;
 
 use riichi_hand::Wind;
-use riichi_settle::{as_played, moves_of, points_after as points_moved, settle};
-use riichi_table::{ByPlayer, GameState, Outcome, Player, Renchan, TableRules};
+use riichi_table::{GameState, Outcome, Player, Renchan};
 
 /// Whether the dealer stays, of an outcome as it is played.
 #[tactic(auto, unfolding(crate::specs::Following::stays))]
@@ -28,12 +27,6 @@ fn stays_ready(renchan: Renchan, ready: bool) -> bool
     }
 }
 
-pub(crate) fn stays_after(state: &GameState, rules: &TableRules, outcome: &Outcome) -> bool
-    ensures { result ≡ spec.stays_after state.now rules.now outcome.now }
-{
-    stays(rules.renchan, state.dealer, &as_played(rules, outcome))
-}
-
 fn one_more_if(dealer_wins: bool, counters: u8) -> u16
     ensures { result ≡ spec.one_more_if dealer_wins counters }
 {
@@ -44,8 +37,9 @@ fn one_more_if(dealer_wins: bool, counters: u8) -> u16
     }
 }
 
+/// The counters after an outcome as it is played.
 #[tactic(auto, unfolding(crate::specs::Following::counters_with))]
-fn counters_with(counters: u8, dealer: Player, played: &Outcome) -> u16
+pub(crate) fn counters_with(counters: u8, dealer: Player, played: &Outcome) -> u16
     ensures { result ≡ spec.counters_with counters dealer played.now }
 {
     match played {
@@ -55,37 +49,6 @@ fn counters_with(counters: u8, dealer: Player, played: &Outcome) -> u16
         Outcome::Abort { .. } => u16::from(counters) + 1,
         Outcome::Stands { state } => u16::from(state.counters),
         _ => u16::from(counters),
-    }
-}
-
-#[tactic(auto, unfolding(crate::specs::Following::counters_after))]
-pub(crate) fn counters_after(state: &GameState, rules: &TableRules, outcome: &Outcome) -> u16
-    ensures { result ≡ spec.counters_after state.now rules.now outcome.now }
-{
-    counters_with(state.counters, state.dealer, &as_played(rules, outcome))
-}
-
-#[tactic(auto, unfolding(crate::specs::Following::points_after))]
-pub(crate) fn points_after(
-    state: &GameState,
-    rules: &TableRules,
-    outcome: &Outcome,
-) -> ByPlayer<i64>
-    ensures { result ≡ spec.points_after state.now rules.now outcome.now }
-{
-    match outcome {
-        Outcome::Stands { state: written } => written.points.widened(),
-        _ => points_moved(&state.points, &moves_of(state, rules, outcome)),
-    }
-}
-
-#[tactic(auto, unfolding(crate::specs::Following::sticks_after))]
-pub(crate) fn sticks_after(state: &GameState, rules: &TableRules, outcome: &Outcome) -> u16
-    ensures { result ≡ spec.sticks_after state.now rules.now outcome.now }
-{
-    match outcome {
-        Outcome::Stands { state: written } => u16::from(written.sticks),
-        _ => settle(state, rules, outcome).sticks,
     }
 }
 
@@ -109,14 +72,15 @@ fn round_behind(round: Wind, dealer: Player) -> Wind
     }
 }
 
-#[tactic(auto, unfolding(crate::specs::Following::round_after))]
-pub(crate) fn round_after(state: &GameState, rules: &TableRules, outcome: &Outcome) -> Wind
-    ensures { result ≡ spec.round_after state.now rules.now outcome.now }
+/// The round after an outcome, where the dealer stays or doesn't.
+#[tactic(auto, unfolding(crate::specs::Following::round_by))]
+pub(crate) fn round_by(state: &GameState, stays: bool, outcome: &Outcome) -> Wind
+    ensures { result ≡ spec.round_by state.now stays outcome.now }
 {
     match outcome {
         Outcome::Stands { state: written } => written.round,
         _ => {
-            if stays_after(state, rules, outcome) {
+            if stays {
                 state.round
             } else {
                 round_behind(state.round, state.dealer)
@@ -125,14 +89,15 @@ pub(crate) fn round_after(state: &GameState, rules: &TableRules, outcome: &Outco
     }
 }
 
-#[tactic(auto, unfolding(crate::specs::Following::dealer_after))]
-pub(crate) fn dealer_after(state: &GameState, rules: &TableRules, outcome: &Outcome) -> Player
-    ensures { result ≡ spec.dealer_after state.now rules.now outcome.now }
+/// The dealer after an outcome, where the one before stays or doesn't.
+#[tactic(auto, unfolding(crate::specs::Following::dealer_by))]
+pub(crate) fn dealer_by(state: &GameState, stays: bool, outcome: &Outcome) -> Player
+    ensures { result ≡ spec.dealer_by state.now stays outcome.now }
 {
     match outcome {
         Outcome::Stands { state: written } => written.dealer,
         _ => {
-            if stays_after(state, rules, outcome) {
+            if stays {
                 state.dealer
             } else {
                 state.dealer.next()

@@ -12,18 +12,18 @@
 #![tactic(auto)]
 
 mod bets;
+mod consequences;
 mod ends;
 mod following;
 mod game;
 mod hands;
 pub mod laws;
 mod line;
-mod refusals;
+mod numbers;
 mod values;
 mod won;
 
 pub use ends::has_round;
 pub use game::{Progress, after_all};
 pub use hands::{NoWorth, win_record, worth_of_score, worth_of_win};
-pub use refusals::fault;
 pub use values::{LimitHand, counted_worth, limit_worth, most_limits, occurs};

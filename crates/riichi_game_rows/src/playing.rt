@@ -4,7 +4,7 @@ ghost use Rattle.riichi_game_rows.specs.Playing as spec;
 
 use crate::fault_numbers::RowFault;
 use crate::outcome_row::OutcomeRow;
-use riichi_game::{Progress, fault};
+use riichi_game::Progress;
 use riichi_table::{Outcome, TableRules};
 
 /// How far a game went.
@@ -70,8 +70,8 @@ pub fn accepted_outcome(
     let Some(outcome) = row.outcome() else {
         return Err(RowFault::SaysNothing);
     };
-    match fault(progress, rules, &outcome) {
-        None => Ok(outcome),
-        Some(fault) => Err(RowFault::Refused(fault)),
+    match progress.after(rules, &outcome) {
+        Ok(_) => Ok(outcome),
+        Err(fault) => Err(RowFault::Refused(fault)),
     }
 }

@@ -1,6 +1,7 @@
 //! A line of a game that has begun.
-ghost use Rattle.std.specs.Prelude.{◌≡◌};
+ghost use Rattle.std.specs.Prelude.{◌≡◌, Ok, Err, IfOk, IfErr};
 ghost use Rattle.std.specs.List.{list_any};
+ghost use Rattle.riichi_game.specs.Faults.{next_of};
 ghost use Rattle.riichi_game_text.specs.Words.{said_in};
 ghost use Rattle.riichi_game_text.specs.Names.{names_in};
 ghost use Rattle.riichi_game_text.specs.Entries as spec;
@@ -12,28 +13,39 @@ use crate::rons::read_ron;
 use crate::stands::read_stands;
 use crate::won::read_tsumo;
 use crate::words::next_said;
-use riichi_game::{Progress, fault};
+use riichi_game::Progress;
 use riichi_hand::MOST_LINE;
 use riichi_table::{GameState, Outcome, OutcomeFault, TableRules};
 
-/// The outcome of a line of a game that has come so far, or the first fault of the line, G1 to G13. The line comes without the line
-/// feed and the carriage return that ended it.
+/// What an accepted line of a game says, and how far the game has come after it.
+#[derive(Clone, Copy, Debug, PartialEq, Eq)]
+pub struct AcceptedLine {
+    pub outcome: Outcome,
+    pub after: Progress,
+}
+
+/// What a line says in a game that has come so far, or the first fault of the line, G1 to G13. The line comes without the line feed
+/// and the carriage return that ended it.
 #[tactic(auto, unfolding(crate::specs::Entries::entry_of))]
 pub fn read_entry(
     names: &Names,
     progress: &Progress,
     rules: &TableRules,
     line: &[u8],
-) -> Result<Outcome, GameFault>
-    ensures { result ≡ spec.entry_of (names_in names.now) progress.now rules.now line.now }
+) -> Result<AcceptedLine, GameFault>
+    ensures ok { IfOk result (λ accepted.
+        (spec.entry_of (names_in names.now) progress.now rules.now line.now ≡ Ok accepted.outcome)
+        × (next_of progress.now rules.now accepted.outcome ≡ Ok accepted.after)) }
+    ensures err { IfErr result (λ fault.
+        spec.entry_of (names_in names.now) progress.now rules.now line.now ≡ Err fault) }
 {
     if is_odd(line) {
         return Err(GameFault::G1);
     }
     let outcome = read_outcome(names, rules, &progress.state, line)?;
-    match fault(progress, rules, &outcome) {
-        None => Ok(outcome),
-        Some(fault) => Err(code_of(fault)),
+    match progress.after(rules, &outcome) {
+        Ok(after) => Ok(AcceptedLine { outcome, after }),
+        Err(fault) => Err(code_of(fault)),
     }
 }
 

@@ -34,7 +34,7 @@ pub use answers::{
     MOST_BEGUN, MOST_DEAL, MOST_PENALTY, MOST_STANDS, push_begun, push_deal, push_penalty,
     push_stands,
 };
-pub use entry::{is_odd, read_entry};
+pub use entry::{AcceptedLine, is_odd, read_entry};
 pub use fault::{GameFault, HandFault, MOST_REFUSED, push_refused};
 pub use final_texts::{MOST_FINAL, MOST_OVER, push_over};
 pub use game_line::{GameLine, read_game};

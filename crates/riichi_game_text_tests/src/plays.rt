@@ -33,18 +33,16 @@ impl Play {
         let Play { game, progress, .. } = *self;
         match read_entry(&game.names, &progress, &game.rules, line.as_bytes()) {
             Err(fault) => push_refused(&mut self.text, &fault),
-            Ok(outcome) => self.accept(&outcome),
+            Ok(accepted) => self.accept(&accepted),
         }
         assert_eq!(rt; self.text.as_str(), answer);
     }
 
-    fn accept(&mut self, outcome: &Outcome) {
+    fn accept(&mut self, accepted: &AcceptedLine) {
         self.text.clear();
         let before = self.progress;
-        if let Ok(after) = before.after(&self.game.rules, outcome) {
-            self.progress = after;
-        }
-        match outcome {
+        self.progress = accepted.after;
+        match &accepted.outcome {
             Outcome::End => {}
             Outcome::Penalty { player, points } => {
                 let name = self.game.names.get(*player);

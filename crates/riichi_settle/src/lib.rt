@@ -17,7 +17,7 @@ mod settling;
 mod tsumos;
 mod winning;
 
-pub use making::moves_of;
+pub use making::{moves_as_played, moves_of};
 pub use moved::{MOST_MOVES, Move, Moves, Reason, Taking};
-pub use settling::{Changes, changes_by, points_after, settle};
+pub use settling::{Changes, changes_by, points_after, settle, sticks_after};
 pub use winning::{as_played, nearest, winners};

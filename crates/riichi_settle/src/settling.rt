@@ -46,10 +46,9 @@ fn changed(points: i32, moves: &[Move], player: Player) -> i64
 pub fn changes_by(sticks: u8, moves: &Moves) -> Changes
     ensures { result ≡ spec.changes_by sticks moves.now.items }
 {
-    let list = moves.as_slice();
     Changes {
-        points: points_by(list),
-        sticks: sticks_after(sticks, list),
+        points: points_by(moves.as_slice()),
+        sticks: sticks_after(sticks, moves),
     }
 }
 
@@ -127,13 +126,14 @@ fn given_by(player: Player, step: &Move) -> u64
     }
 }
 
+/// The sticks that lie after moves, where so many lay before.
 #[tactic(auto, unfolding(crate::specs::Settled::sticks_by))]
-fn sticks_after(sticks: u8, moves: &[Move]) -> u16
-    requires { length moves.now ≤ MOST_MOVES }
-    ensures { result ≡ spec.sticks_by sticks moves.now }
+pub fn sticks_after(sticks: u8, moves: &Moves) -> u16
+    ensures { result ≡ spec.sticks_by sticks moves.now.items }
 {
-    let lying = u32::from(sticks) + bet(moves);
-    lying.saturating_sub(taken(moves)) as u16
+    let list = moves.as_slice();
+    let lying = u32::from(sticks) + bet(list);
+    lying.saturating_sub(taken(list)) as u16
 }
 
 /// How many sticks are bet.

@@ -234,6 +234,7 @@ impl Maker<'_> {
             35 | 36 => self.penalty(),
             37 => self.stands(),
             38 if self.one_in(4) => "end".into(),
+            39 if self.one_in(3) => "undo".into(),
             _ => self.draw(),
         }
     }

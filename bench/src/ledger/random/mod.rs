@@ -111,6 +111,10 @@ impl Text<'_> {
         for _ in 0..3 + self.dice.below(24) {
             match self.desk.game() {
                 Some(now) if !now.is_over => game = now.clone(),
+                None if one_in(self.dice, 3) => {
+                    self.push_text("undo");
+                    continue;
+                }
                 _ => break,
             }
             self.push_line(&game);
@@ -126,7 +130,11 @@ impl Text<'_> {
         let is_refused = self.desk.game().is_none();
         if is_refused && self.one_in(2) || self.one_in(5) {
             for _ in 0..1 + self.dice.below(3) {
-                let line = if self.one_in(3) { "penalty 1 1000".into() } else { self.line(game) };
+                let line = match self.dice.below(9) {
+                    0..=2 => "penalty 1 1000".into(),
+                    3 => "undo".into(),
+                    _ => self.line(game),
+                };
                 self.push_text(&line);
             }
         }
