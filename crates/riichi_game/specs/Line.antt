@@ -1,8 +1,8 @@
 -- Why an outcome is refused whatever the table shows, but for its rules.
 use Rattle.std.specs.Prelude.{Bool, false, not, ◌&&◌, ◌||◌, nat_le, nat_lt, if◌then◌else◌, List, [], ◌∷◌, Option, Some, None}
 use Rattle.riichi_hand.specs.Rules.{Rules}
-use Rattle.riichi_table.specs.Players.{of_player, by_players, is_same, of_some}
-use Rattle.riichi_table.specs.Worths.{limits_of}
+use Rattle.riichi_table.specs.Players.{of_player, by_players, is_same_player, of_some}
+use Rattle.riichi_table.specs.Worths.{limits_of_worth}
 use Rattle.riichi_table.specs.declared.player.Player.{Player}
 use Rattle.riichi_table.specs.declared.player.ByPlayer.{ByPlayer}
 use Rattle.riichi_table.specs.declared.rules.TableRules.{TableRules}
@@ -40,7 +40,7 @@ discarder_wins other = false
 
 abbrev pub is_liable : Option Liable → Player → Bool
 is_liable None player = false
-is_liable (Some liable) player = is_same liable.player player
+is_liable (Some liable) player = is_same_player liable.player player
 
 abbrev pub is_liable_for : Option Win → Player → Bool
 is_liable_for None player = false
@@ -73,7 +73,7 @@ no_such_worth rules wins = of_some (λ player. has_no_worth rules (of_player win
 -- liability is for one limit at least, and for no more than the hand has; a counted hand has none
 abbrev pub has_wrong_limits : Worth → Option Liable → Bool
 has_wrong_limits worth None = false
-has_wrong_limits worth (Some liable) = nat_lt liable.limits 1 || nat_lt (limits_of worth) liable.limits
+has_wrong_limits worth (Some liable) = nat_lt liable.limits 1 || nat_lt (limits_of_worth worth) liable.limits
 
 abbrev pub is_wrongly_liable : Option Win → Bool
 is_wrongly_liable None = false

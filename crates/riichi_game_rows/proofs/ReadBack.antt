@@ -2,7 +2,7 @@
 use Rattle.std.proofs.Common.{◌≡◌, Bool, true, false, nat_lt, refl}
 use Rattle.riichi_hand.specs.declared.win.Wind.{Wind}
 use Rattle.riichi_hand.specs.declared.win.Wind.TheVariants.{East, South, West, North}
-use Rattle.riichi_table.specs.Players.{one_if}
+use Rattle.riichi_table.specs.Players.{one_where}
 use Rattle.riichi_table.specs.declared.player.Player.{Player}
 use Rattle.riichi_table.specs.declared.player.Player.TheVariants.{First, Second, Third, Fourth}
 use Rattle.riichi_game.specs.Ends.{round_number}
@@ -35,7 +35,7 @@ the_player Second = refl
 the_player Third = refl
 the_player Fourth = refl
 
-the_flag : (holds : Bool) → is_set (one_if holds) ≡ holds
+the_flag : (holds : Bool) → is_set (one_where holds) ≡ holds
 the_flag true = refl
 the_flag false = refl
 

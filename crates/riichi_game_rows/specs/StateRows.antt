@@ -4,7 +4,7 @@ use Rattle.riichi_table.specs.declared.state.GameState.{GameState}
 use Rattle.riichi_game.specs.declared.game.Progress.{Progress}
 use Rattle.riichi_game.specs.Ends.{round_number}
 use Rattle.riichi_places.specs.Places.{seat_number}
-use Rattle.riichi_table.specs.Players.{one_if}
+use Rattle.riichi_table.specs.Players.{one_where}
 use Rattle.riichi_win_arrays.specs.WinRows.{wind_numbered}
 use Rattle.riichi_game_rows.specs.Fours.{player_numbered, by_player, four_of, is_set}
 use Rattle.riichi_game_rows.specs.declared.state_row.StateRow.{StateRow}
@@ -45,5 +45,5 @@ abbrev pub progress_row : Progress → ProgressRow
 progress_row progress = record {
   state = state_row progress.state;
   penalties = four_of progress.penalties;
-  over = one_if progress.is_over;
+  over = one_where progress.is_over;
 }

@@ -1,7 +1,7 @@
 -- The rules of a table as a row.
 use Rattle.std.specs.Prelude.{ℕ, ◌==◌, ◌&&◌, nat_lt, Bool, ℤ, pos, List, [], ◌∷◌, Option, Some, None, if◌then◌else◌, slice_index_or}
 use Rattle.riichi_hand.specs.Rules.{Rules}
-use Rattle.riichi_table.specs.Players.{one_if}
+use Rattle.riichi_table.specs.Players.{one_where}
 use Rattle.riichi_table.specs.declared.rules.ByPlace.{ByPlace}
 use Rattle.riichi_table.specs.declared.rules.ChomboCost.{ChomboCost}
 use Rattle.riichi_table.specs.declared.rules.ChomboCost.TheVariants as cost
@@ -147,12 +147,12 @@ table_row number rules = record {
   ron = ron_number rules.ron;
   counters = counters_number rules.counters;
   sticks = sticks_number rules.sticks;
-  liable = one_if rules.liable;
-  nagashi = one_if rules.nagashi;
+  liable = one_where rules.liable;
+  nagashi = one_where rules.nagashi;
   renchan = renchan_number rules.renchan;
   length = length_number rules.length;
-  bust = one_if rules.bust;
-  stop = one_if rules.stop;
+  bust = one_where rules.bust;
+  stop = one_where rules.stop;
   left = left_number rules.left;
   zero = 0;
 }

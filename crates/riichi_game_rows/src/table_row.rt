@@ -1,7 +1,7 @@
 //! The rules of a table as a row.
 ghost use Rattle.std.specs.Prelude.{◌≡◌};
 ghost use Rattle.riichi_game_rows.specs.TableRows as spec;
-ghost use Rattle.riichi_table.specs.Players.{one_if as one};
+ghost use Rattle.riichi_table.specs.Players.{one_where as one};
 
 use riichi_hand::Rules;
 use riichi_table::{

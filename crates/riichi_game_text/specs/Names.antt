@@ -2,7 +2,7 @@
 use Rattle.std.specs.Prelude.{ℕ, ◌==◌, List, [], ◌∷◌, length, codes, Bool, not, ◌&&◌, ◌||◌, nat_le, nat_lt, Option, None, Some, if◌then◌else◌}
 use Rattle.std.specs.List.{list_all, starts_with}
 use Rattle.std.specs.Str.{bytes_eq, is_utf8}
-use Rattle.riichi_table.specs.Players.{of_player, by_players, of_some, count_of}
+use Rattle.riichi_table.specs.Players.{of_player, by_players, of_some, count_players}
 use Rattle.riichi_table.specs.declared.player.Player.{Player}
 use Rattle.riichi_table.specs.declared.player.Player.TheVariants.{First, Second, Third, Fourth}
 use Rattle.riichi_table.specs.declared.player.ByPlayer.{ByPlayer}
@@ -71,5 +71,5 @@ is_begun names text player = starts_with (λ one other. one == other) (of_player
 unfoldable pub player_named : ByPlayer (List ℕ) → List ℕ → Option Player
 player_named names text =
     if of_some (is_whole names text) then first_player (is_whole names text)
-    else if count_of (is_begun names text) == 1 then first_player (is_begun names text)
+    else if count_players (is_begun names text) == 1 then first_player (is_begun names text)
     else None

@@ -3,8 +3,8 @@ use Rattle.std.specs.Prelude.{ℕ, List, [], ◌∷◌, codes, Bool, false, not,
 use Rattle.std.specs.Str.{bytes_eq}
 use Rattle.riichi_hand.specs.declared.win.By.{By}
 use Rattle.riichi_hand.specs.declared.win.By.TheVariants as by
-use Rattle.riichi_table.specs.Players.{of_player, with_player, is_same, seat_of}
-use Rattle.riichi_table.specs.Worths.{limits_of}
+use Rattle.riichi_table.specs.Players.{of_player, with_player, is_same_player, seat_of}
+use Rattle.riichi_table.specs.Worths.{limits_of_worth}
 use Rattle.riichi_table.specs.declared.player.Player.{Player}
 use Rattle.riichi_table.specs.declared.player.ByPlayer.{ByPlayer}
 use Rattle.riichi_table.specs.declared.rules.TableRules.{TableRules}
@@ -62,7 +62,7 @@ said_limits (Some liable) = liable.limits
 abbrev pub liable_win : Player → ValueWorth → Option ℕ → Result Win GameFault
 liable_win player value None = Err G6
 liable_win player value (Some limits) =
-    if nat_le 1 limits && nat_le limits (limits_of value.worth)
+    if nat_le 1 limits && nat_le limits (limits_of_worth value.worth)
     then Ok (record { worth = value.worth; liable = Some (record { player = player; limits = limits }) })
     else Err G6
 
@@ -102,7 +102,7 @@ liable_named names (Some liable) = liable_found (player_named names liable.name)
 
 abbrev pub is_liable : Option Player → Player → Bool
 is_liable None winner = false
-is_liable (Some liable) winner = is_same liable winner
+is_liable (Some liable) winner = is_same_player liable winner
 
 -- the winner is liable, or bets by a hand without riichi
 abbrev pub is_wrong : Player → Option Player → ByPlayer Bool → SaidWin → Bool

@@ -1,6 +1,6 @@
 -- What a player needs.
 use Rattle.std.specs.Prelude.{ℕ, ◌≡◌, ◌≤◌, min, Bool, true, false, ◌&&◌, if◌then◌else◌, SomeIndex, IsSome, slice_index, Option, Some, None}
-use Rattle.riichi_table.specs.Players.{of_player, is_same}
+use Rattle.riichi_table.specs.Players.{of_player, is_same_player}
 use Rattle.riichi_table.specs.declared.player.Player.{Player}
 use Rattle.riichi_table.specs.declared.player.ByPlayer.{ByPlayer}
 use Rattle.riichi_hand.specs.Rules.{Rules}
@@ -54,8 +54,8 @@ IsNeed question way need = IsLeastRow question way Strictly need.strictly × IsL
 
 -- off each other player, and nothing off the own discard
 abbrev pub IsRonNeed : Question → Player → Option Need → Type 0
-IsRonNeed question from None = is_same from question.player ≡ true
-IsRonNeed question from (Some need) = (is_same from question.player ≡ false) × IsNeed question (Ron from) need
+IsRonNeed question from None = is_same_player from question.player ≡ true
+IsRonNeed question from (Some need) = (is_same_player from question.player ≡ false) × IsNeed question (Ron from) need
 
 abbrev pub AreRonNeeds : Question → ByPlayer (Option Need) → Type 0
 AreRonNeeds question needs = (from : Player) → IsRonNeed question from (of_player needs from)

@@ -1,6 +1,6 @@
 //! The points of the four after a player has won alone.
 ghost use Rattle.std.specs.Prelude.{◌≡◌, ◌≤◌, ◌+◌, ◌*◌, ◌≤ℤ◌, pos, negsuc};
-ghost use Rattle.riichi_table.specs.Players.{of_player, count_of};
+ghost use Rattle.riichi_table.specs.Players.{of_player, count_players};
 ghost use Rattle.riichi_score.specs.Payment as score;
 ghost use Rattle.riichi_settle.specs.Laws.{share_of};
 ghost use Rattle.riichi_need.specs.Winning as spec;

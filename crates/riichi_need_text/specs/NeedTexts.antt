@@ -5,7 +5,7 @@ use Rattle.riichi_hand.specs.Rules.{Rules}
 use Rattle.riichi_hand.specs.declared.win.By.{By}
 use Rattle.riichi_score.specs.Payment.{paid_for}
 use Rattle.riichi_score.specs.Text.{payment_text}
-use Rattle.riichi_table.specs.Players.{of_player, is_same}
+use Rattle.riichi_table.specs.Players.{of_player, is_same_player}
 use Rattle.riichi_table.specs.declared.player.Player.{Player}
 use Rattle.riichi_table.specs.declared.player.Player.TheVariants.{First, Second, Third, Fourth}
 use Rattle.riichi_table.specs.declared.player.ByPlayer.{ByPlayer}
@@ -57,7 +57,7 @@ hands_text rules by base =
 -- what is paid for so many base points, one yakuman at most, without counters, and each hand that has them
 abbrev pub base_text : Question → Way → ℕ → List ℕ
 base_text question way base =
-    payment_text (paid_for (min base 8000) (way_by way) (is_same question.player question.state.dealer) 0)
+    payment_text (paid_for (min base 8000) (way_by way) (is_same_player question.player question.state.dealer) 0)
     ++ hands_text question.rules.hand (way_by way) base
 
 abbrev pub row_text : Question → Way → Option Row → List ℕ

@@ -10,16 +10,16 @@ use Rattle.riichi_settle.specs.Settled.{got_by, given_by, sticks_bet, sticks_tak
 use Rattle.riichi_settle.specs.declared.moved.Move.{Move}
 use Rattle.riichi_settle.specs.declared.moved.Reason.{Reason}
 use Rattle.riichi_settle.specs.declared.moved.Taking.{Taking}
-use Rattle.riichi_table.specs.Players.{is_same, over_players}
+use Rattle.riichi_table.specs.Players.{is_same_player, over_players}
 
 pub nothing_if : (holds : Bool) → amount_if holds 0 ≡ 0
 nothing_if true = refl
 nothing_if false = refl
 
-pub got-paid : (player from to : Player) (points : ℕ) (why : Reason) → sum_by (got_by player) (paid from to points why) ≡ amount_if (is_same to player) points
+pub got-paid : (player from to : Player) (points : ℕ) (why : Reason) → sum_by (got_by player) (paid from to points why) ≡ amount_if (is_same_player to player) points
 got-paid player from to points why = grind (arith, nat_tests, nothing_if)
 
-pub given-paid : (player from to : Player) (points : ℕ) (why : Reason) → sum_by (given_by player) (paid from to points why) ≡ amount_if (is_same from player) points
+pub given-paid : (player from to : Player) (points : ℕ) (why : Reason) → sum_by (given_by player) (paid from to points why) ≡ amount_if (is_same_player from player) points
 given-paid player from to points why = grind (arith, nat_tests, nothing_if)
 
 pub bet-paid : (from to : Player) (points : ℕ) (why : Reason) → sum_by sticks_bet (paid from to points why) ≡ 0
@@ -28,7 +28,7 @@ bet-paid from to points why = grind (arith, nat_tests)
 pub taken-paid : (from to : Player) (points : ℕ) (why : Reason) → sum_by sticks_taken (paid from to points why) ≡ 0
 taken-paid from to points why = grind (arith, nat_tests)
 
-pub got-taken : (player to : Player) (count : ℕ) (why : Taking) → sum_by (got_by player) (taken to count why) ≡ amount_if (is_same to player) (1000 * count)
+pub got-taken : (player to : Player) (count : ℕ) (why : Taking) → sum_by (got_by player) (taken to count why) ≡ amount_if (is_same_player to player) (1000 * count)
 got-taken player to count why = grind (arith, nat_tests, nothing_if)
 
 pub given-taken : (player to : Player) (count : ℕ) (why : Taking) → sum_by (given_by player) (taken to count why) ≡ 0

@@ -1,12 +1,12 @@
 -- What a hand costs.
 use Rattle.std.specs.Prelude.{ℕ, ◌*◌, Bool, if◌then◌else◌}
 use Rattle.riichi_score.specs.Payment.{up}
-use Rattle.riichi_table.specs.Worths.{base_of}
+use Rattle.riichi_table.specs.Worths.{base_of_worth}
 use Rattle.riichi_table.specs.declared.worth.Worth.{Worth}
 
 -- so many times the base points, rounded up to a hundred
 unfoldable pub times : ℕ → Worth → ℕ
-times number worth = up (number * base_of worth)
+times number worth = up (number * base_of_worth worth)
 
 -- a discard costs four times the base points, to the dealer six times
 abbrev pub ron_price : Worth → Bool → ℕ
