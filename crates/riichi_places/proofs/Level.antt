@@ -10,7 +10,7 @@ use Rattle.riichi_table.specs.declared.player.Player.TheVariants.{First, Second,
 use Rattle.riichi_table.specs.declared.player.ByPlayer.{ByPlayer}
 use Rattle.riichi_table.specs.declared.rules.Ties.{Ties}
 use Rattle.riichi_table.specs.declared.rules.Ties.TheVariants.{Share, Seat}
-use Rattle.riichi_places.specs.Places.{seat_number, is_ahead, is_level, ahead_of, sharers_of, earlier_of, place_of}
+use Rattle.riichi_places.specs.Places.{seat_number, is_ahead, is_level, ahead_of, sharers_of, earlier_of, place_by_points}
 use Rattle.riichi_places.specs.Bonuses.{bonuses, part_of, shared_bonus, bonus_of}
 use Rattle.riichi_places.specs.Laws.{EqualPointsShare, MorePointsAreAhead, AreWithinAHundred}
 use Rattle.riichi_places.proofs.Counts.{some_sharer}
@@ -39,7 +39,7 @@ equal_points_share rules points one other ties e =
     let i = earlier_of rules.ties points one in
     let j = earlier_of rules.ties points other in
     let number = sharers_of rules.ties points other in
-    let all = bonuses rules (place_of rules.ties points other) number in
+    let all = bonuses rules (place_by_points rules.ties points other) number in
     let same : bonus_of rules points one ≡ part_of all number i = λ k. part_of (bonuses rules (1 + ahead k) (sharers k)) (sharers k) i in (
       ap (λ n. 1 + n) ahead,
       subst (λ (x : ℤ). AreWithinAHundred x (part_of all number j)) (sym same) (within all number i j, within all number j i),

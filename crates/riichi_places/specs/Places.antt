@@ -39,8 +39,8 @@ unfoldable pub ahead_of : Ties → ByPlayer ℤ → Player → ℕ
 ahead_of ties points player = count_players (λ other. is_ahead ties points other player)
 
 -- one more than are ahead: so equal points have the same place where they share, as in 1 2 2 4
-abbrev pub place_of : Ties → ByPlayer ℤ → Player → ℕ
-place_of ties points player = 1 + ahead_of ties points player
+abbrev pub place_by_points : Ties → ByPlayer ℤ → Player → ℕ
+place_by_points ties points player = 1 + ahead_of ties points player
 
 -- how many have the player's place
 unfoldable pub sharers_of : Ties → ByPlayer ℤ → Player → ℕ
@@ -52,4 +52,4 @@ earlier_of ties points player = count_players (λ other. is_level ties points ot
 
 -- nobody has more points, and nobody with as many an earlier first seat
 abbrev pub is_first : ByPlayer ℤ → Player → Bool
-is_first points player = place_of Seat points player == 1
+is_first points player = place_by_points Seat points player == 1
