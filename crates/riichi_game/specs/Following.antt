@@ -13,7 +13,7 @@ use Rattle.riichi_table.specs.declared.state.GameState.{GameState}
 use Rattle.riichi_table.specs.declared.outcome.Outcome.{Outcome}
 use Rattle.riichi_table.specs.declared.outcome.Outcome.TheVariants.{Ron, Tsumo, Draw, Abort, Stands}
 use Rattle.riichi_settle.specs.Winners.{wins_of, as_played}
-use Rattle.riichi_settle.specs.Settled.{points_by, sticks_by, moves_of}
+use Rattle.riichi_settle.specs.Settled.{points_after_moves, sticks_by, moves_of}
 
 -- ---- who deals next, of an outcome as it is played
 
@@ -58,7 +58,7 @@ stays_after state rules outcome = stays rules.renchan state.dealer (as_played ru
 
 unfoldable pub points_after : GameState → TableRules → Outcome → ByPlayer ℤ
 points_after state rules (Stands written) = written.points
-points_after state rules outcome = points_by state.points (moves_of state rules outcome)
+points_after state rules outcome = points_after_moves state.points (moves_of state rules outcome)
 
 unfoldable pub sticks_after : GameState → TableRules → Outcome → ℕ
 sticks_after state rules (Stands written) = written.sticks

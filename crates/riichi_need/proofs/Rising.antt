@@ -12,7 +12,7 @@ use Rattle.riichi_table.specs.declared.player.ByPlayer.{ByPlayer}
 use Rattle.riichi_table.specs.declared.rules.Ties.{Ties}
 use Rattle.riichi_table.specs.declared.rules.Ties.TheVariants.{Share, Seat}
 use Rattle.riichi_places.specs.Places.{seat_number, is_ahead, ahead_of}
-use Rattle.riichi_settle.specs.Laws.{share_of}
+use Rattle.riichi_settle.specs.Laws.{share_of_payment}
 use Rattle.riichi_need.specs.Winning.{pays, gains, points_then, all_points_then}
 use Rattle.riichi_need.specs.Reaching.{is_not_below, not_below_of, reaches}
 use Rattle.riichi_need.specs.Laws.{GreaterReachesToo}
@@ -32,7 +32,7 @@ tsumo_rises base greater counters true h = omega arith
 tsumo_rises base greater counters false h = omega arith
 
 share_rises : (base greater counters : ℕ) (dealer of_dealer : Bool) → base ≤ greater
-    → share_of (by_tsumo base dealer counters) of_dealer ≤ share_of (by_tsumo greater dealer counters) of_dealer
+    → share_of_payment (by_tsumo base dealer counters) of_dealer ≤ share_of_payment (by_tsumo greater dealer counters) of_dealer
 share_rises base greater counters true of_dealer h = omega arith
 share_rises base greater counters false true h = omega arith
 share_rises base greater counters false false h = omega arith

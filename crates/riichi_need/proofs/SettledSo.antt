@@ -7,7 +7,7 @@ use Rattle.riichi_table.specs.Worths.{base_of_worth}
 use Rattle.riichi_table.specs.declared.player.Player.{Player}
 use Rattle.riichi_table.specs.declared.player.Player.TheVariants.{First, Second, Third, Fourth}
 use Rattle.riichi_settle.specs.Laws.{SettlesLoneRon, SettlesLoneTsumo, nobody}
-use Rattle.riichi_settle.specs.Laws.{share_of}
+use Rattle.riichi_settle.specs.Laws.{share_of_payment}
 use Rattle.riichi_need.specs.Winning.{payment_for, other_bets, points_then}
 use Rattle.riichi_need.specs.Laws.{RonIsSettledSo, TsumoIsSettledSo}
 use Rattle.riichi_need.specs.declared.question.Question.{Question}
@@ -81,7 +81,7 @@ tsumo_is_settled_so law question player worth none =
     let x = of_player question.state.points player in
     let payment = payment_for question Tsumo (base_of_worth worth) in
     let gain = gain_of payment question.state.sticks in
-    let share = share_of payment (is_same_player player question.state.dealer) in
+    let share = share_of_payment payment (is_same_player player question.state.dealer) in
     tsumo_case (is_same_player player question.player) x gain _ share _
     (ap (λ bets. count_players (of_player bets)) (no_bets question none)) (no_bet question player none)
     ∙ ap (λ same. x +ℤ (if same then pos gain else neg_ℤ (pos share))) (same_back player question.player)

@@ -7,7 +7,7 @@ use Rattle.riichi_score.specs.declared.payers.Payment.{Payment}
 use Rattle.riichi_table.specs.Players.{of_player, by_players, with_player, is_same_player, count_players}
 use Rattle.riichi_table.specs.declared.player.Player.{Player}
 use Rattle.riichi_table.specs.declared.player.ByPlayer.{ByPlayer}
-use Rattle.riichi_settle.specs.Laws.{share_of}
+use Rattle.riichi_settle.specs.Laws.{share_of_payment}
 use Rattle.riichi_need.specs.declared.question.Question.{Question}
 use Rattle.riichi_need.specs.declared.question.Way.{Way}
 use Rattle.riichi_need.specs.declared.question.Way.TheVariants.{Ron, Tsumo}
@@ -23,7 +23,7 @@ payment_for question way base = paid_for base (way_by way) (is_same_player quest
 -- what a player pays who doesn't win: the discarder all, and at a self-draw each a share
 abbrev pub pays : Question → Way → ℕ → Player → ℕ
 pays question (Ron from) base player = if is_same_player player from then paid (payment_for question (Ron from) base) else 0
-pays question Tsumo base player = share_of (payment_for question Tsumo base) (is_same_player player question.state.dealer)
+pays question Tsumo base player = share_of_payment (payment_for question Tsumo base) (is_same_player player question.state.dealer)
 
 -- the bets of the deal but the winner's own, which comes back
 abbrev pub other_bets : Question → ByPlayer Bool

@@ -2,7 +2,7 @@
 ghost use Rattle.std.specs.Prelude.{◌≡◌, ◌≤◌, ◌+◌, ◌*◌, ◌≤ℤ◌, pos, negsuc};
 ghost use Rattle.riichi_table.specs.Players.{of_player, count_players};
 ghost use Rattle.riichi_score.specs.Payment as score;
-ghost use Rattle.riichi_settle.specs.Laws.{share_of};
+ghost use Rattle.riichi_settle.specs.Laws.{share_of_payment};
 ghost use Rattle.riichi_need.specs.Winning as spec;
 
 use crate::question::{Question, Way};
@@ -79,7 +79,7 @@ fn paid(payment: &Payment) -> u32
 
 fn share_of(payment: &Payment, dealer: bool) -> u32
     requires { score.paid payment.now ≤ 5000000 }
-    ensures value { result ≡ share_of payment.now dealer }
+    ensures value { result ≡ share_of_payment payment.now dealer }
     ensures most { result ≤ 5000000 }
 {
     match payment {

@@ -10,11 +10,11 @@ use Rattle.riichi_table.specs.declared.player.Player.{Player}
 use Rattle.riichi_table.specs.declared.player.Player.TheVariants.{First, Second, Third, Fourth}
 use Rattle.riichi_table.specs.declared.state.GameState.{GameState}
 use Rattle.riichi_table.specs.declared.worth.Worth.{Worth}
-use Rattle.riichi_settle.specs.Moves.{paid, taken}
-use Rattle.riichi_settle.specs.Prices.{times, ron_price, tsumo_price}
+use Rattle.riichi_settle.specs.Moves.{payment_move, taken}
+use Rattle.riichi_settle.specs.Prices.{times_base, ron_price, tsumo_price}
 use Rattle.riichi_settle.specs.Wins.{ordinary_ron, drawn, drawn_from, price_between}
 use Rattle.riichi_settle.specs.Settled.{got_by, given_by, amount_if, change_by}
-use Rattle.riichi_settle.specs.Laws.{tsumo_payment, ron_change, tsumo_change, share_of, SettlesLoneRon, SettlesLoneTsumo}
+use Rattle.riichi_settle.specs.Laws.{tsumo_payment, ron_change, tsumo_change, share_of_payment, SettlesLoneRon, SettlesLoneTsumo}
 use Rattle.riichi_settle.proofs.Alone.{lone_ron-moves, lone_tsumo-moves}
 use Rattle.riichi_settle.proofs.Flows.{got-paid, given-paid, got-taken, given-taken, sum-each, nothing_if}
 use Rattle.riichi_settle.specs.declared.moved.Move.{Move}
@@ -31,8 +31,8 @@ got-ron : (player dealer from winner : Player) (counters sticks : ℕ) (worth : 
 unfolding ordinary_ron
 got-ron player dealer from winner counters sticks worth =
     let price = ron_price worth (is_same_player winner dealer) in
-    let one = paid from winner price why.Ron in
-    let two = paid from winner (300 * counters) why.Counters in
+    let one = payment_move from winner price why.Ron in
+    let two = payment_move from winner (300 * counters) why.Counters in
     let sticks_of = taken winner sticks taking.Winner in
     omega (
       arith,
@@ -49,8 +49,8 @@ given-ron : (player dealer from winner : Player) (counters sticks : ℕ) (worth 
 unfolding ordinary_ron
 given-ron player dealer from winner counters sticks worth =
     let price = ron_price worth (is_same_player winner dealer) in
-    let one = paid from winner price why.Ron in
-    let two = paid from winner (300 * counters) why.Counters in
+    let one = payment_move from winner price why.Ron in
+    let two = payment_move from winner (300 * counters) why.Counters in
     let sticks_of = taken winner sticks taking.Winner in
     omega (
       arith,
@@ -94,7 +94,7 @@ difference a b c d p q = cc
 ron-change : (state : GameState) (from winner player : Player) (worth : Worth) → is_same_player from winner ≡ false
     → change_by (ordinary_ron state.dealer from winner state.counters worth ++ taken winner state.sticks taking.Winner) player
     ≡ ron_change state from winner worth player
-unfolding change_by times
+unfolding change_by times_base
 ron-change state from winner player worth apart =
     let price = ron_price worth (is_same_player winner state.dealer) in
     difference _ _ _ _ (got-ron player state.dealer from winner state.counters state.sticks worth)
@@ -117,26 +117,26 @@ both_if true a b = refl
 both_if false a b = refl
 
 got-if : (own : Bool) (player payer winner : Player) (price counters : ℕ) (reason : Reason)
-    → sum_by (got_by player) (if own then [] else paid payer winner price reason ++ paid payer winner counters why.Counters)
+    → sum_by (got_by player) (if own then [] else payment_move payer winner price reason ++ payment_move payer winner counters why.Counters)
     ≡ amount_if (is_same_player winner player) (if own then 0 else price + counters)
 got-if true player payer winner price counters reason = sym (nothing_if (is_same_player winner player))
 got-if false player payer winner price counters reason =
     omega (
       arith,
-      sum_by-append (got_by player) (paid payer winner price reason) (paid payer winner counters why.Counters),
+      sum_by-append (got_by player) (payment_move payer winner price reason) (payment_move payer winner counters why.Counters),
       got-paid player payer winner price reason,
       got-paid player payer winner counters why.Counters,
       both_if (is_same_player winner player) price counters,
     )
 
 given-if : (own : Bool) (player payer winner : Player) (price counters : ℕ) (reason : Reason)
-    → sum_by (given_by player) (if own then [] else paid payer winner price reason ++ paid payer winner counters why.Counters)
+    → sum_by (given_by player) (if own then [] else payment_move payer winner price reason ++ payment_move payer winner counters why.Counters)
     ≡ amount_if (is_same_player payer player) (if own then 0 else price + counters)
 given-if true player payer winner price counters reason = sym (nothing_if (is_same_player payer player))
 given-if false player payer winner price counters reason =
     omega (
       arith,
-      sum_by-append (given_by player) (paid payer winner price reason) (paid payer winner counters why.Counters),
+      sum_by-append (given_by player) (payment_move payer winner price reason) (payment_move payer winner counters why.Counters),
       given-paid player payer winner price reason,
       given-paid player payer winner counters why.Counters,
       both_if (is_same_player payer player) price counters,
@@ -223,7 +223,7 @@ one_times base = ap up (omega arith)
 -- all that is paid is what the score says
 all-paid : (dealer winner : Player) (worth : Worth) (counters : ℕ)
     → over_players (share dealer winner worth counters) ≡ payment_total (by_tsumo (base_of_worth worth) (is_same_player winner dealer) counters)
-unfolding share times
+unfolding share times_base
 all-paid First First worth counters = omega (arith, one_times (base_of_worth worth))
 all-paid First Second worth counters = omega (arith, one_times (base_of_worth worth))
 all-paid First Third worth counters = omega (arith, one_times (base_of_worth worth))
@@ -244,8 +244,8 @@ all-paid Fourth Fourth worth counters = omega (arith, one_times (base_of_worth w
 -- the winner pays nothing, and each other what the score says
 share-is : (own payer_deals winner_deals : Bool) (worth : Worth) (counters : ℕ)
     → (if own then 0 else tsumo_price worth (payer_deals || winner_deals) + 100 * counters)
-    ≡ (if own then 0 else share_of (by_tsumo (base_of_worth worth) winner_deals counters) payer_deals)
-unfolding times
+    ≡ (if own then 0 else share_of_payment (by_tsumo (base_of_worth worth) winner_deals counters) payer_deals)
+unfolding times_base
 share-is true payer_deals winner_deals worth counters = refl
 share-is false true true worth counters = refl
 share-is false true false worth counters = refl
@@ -276,18 +276,18 @@ tsumo-sum false all price = omega (arith, ints)
 
 share-at : (state : GameState) (winner player : Player) (worth : Worth)
     → share state.dealer winner worth state.counters player
-    ≡ (if is_same_player winner player then 0 else share_of (tsumo_payment state winner worth) (is_same_player player state.dealer))
+    ≡ (if is_same_player winner player then 0 else share_of_payment (tsumo_payment state winner worth) (is_same_player player state.dealer))
 unfolding share
 share-at state winner player worth =
     share-is (is_same_player player winner) (is_same_player player state.dealer) (is_same_player winner state.dealer) worth state.counters
-    ∙ ap (λ (own : Bool). if own then 0 else share_of (tsumo_payment state winner worth) (is_same_player player state.dealer)) (same-back player winner)
+    ∙ ap (λ (own : Bool). if own then 0 else share_of_payment (tsumo_payment state winner worth) (is_same_player player state.dealer)) (same-back player winner)
 
 tsumo-change : (state : GameState) (winner player : Player) (worth : Worth)
     → change_by (drawn state.dealer winner worth state.counters why.Tsumo ++ taken winner state.sticks taking.Winner) player ≡ tsumo_change state winner worth player
 unfolding change_by
 tsumo-change state winner player worth =
     let gain = gain_of (tsumo_payment state winner worth) state.sticks in
-    let price = share_of (tsumo_payment state winner worth) (is_same_player player state.dealer) in
+    let price = share_of_payment (tsumo_payment state winner worth) (is_same_player player state.dealer) in
     difference _ _ _ _
     (got-tsumo player state.dealer winner worth state.counters state.sticks
     ∙ ap (λ (all : ℕ). amount_if (is_same_player winner player) (all + 1000 * state.sticks)) (all-paid state.dealer winner worth state.counters))

@@ -19,9 +19,9 @@ use Rattle.riichi_table.specs.declared.outcome.Liable.{Liable}
 use Rattle.riichi_table.specs.declared.outcome.Win.{Win}
 use Rattle.riichi_table.specs.declared.outcome.Outcome.{Outcome}
 use Rattle.riichi_table.specs.declared.outcome.Outcome.TheVariants.{Ron, Tsumo, Draw, Abort, Chombo, Penalty, Stands, End}
-use Rattle.riichi_settle.specs.Moves.{paid, taken, each_player, bet, bets}
+use Rattle.riichi_settle.specs.Moves.{payment_move, taken, each_player, bet, bets}
 use Rattle.riichi_settle.specs.Winners.{wins_of, nearest, as_played}
-use Rattle.riichi_settle.specs.Wins.{ordinary_ron, shared_ron, won_with, won, won_if, win_moves, counters_for, ron_moves, own_bets, own_bet_taken, own_taken, sticks_won, drawn_from, drawn, liable_tsumo, tsumo_with, tsumo_moves, price_between, other_limits}
+use Rattle.riichi_settle.specs.Wins.{ordinary_ron, shared_ron, won_with, one_ron, won_if, win_moves, counters_for, ron_moves, own_bets, own_bet_taken, own_taken, sticks_won, drawn_from, drawn, liable_tsumo, tsumo_with, tsumo_moves, price_between, other_limits}
 use Rattle.riichi_settle.specs.Prices.{ron_price}
 use Rattle.riichi_settle.specs.Draws.{share_between, unready_moves, ready_moves, nagashi_of, nagashi_moves, draw_moves, amends, chombo_moves, ready_share, mangan}
 use Rattle.riichi_settle.specs.Settled.{sticks_bet, sticks_taken, sticks_lying, moves_as_played, moves_of}
@@ -43,7 +43,7 @@ record TakesNone (moves : List Move) : Type 0 where
 empty : TakesNone []
 empty = record { none = refl }
 
-payment : (from to : Player) (points : ℕ) (why : Reason) → TakesNone (paid from to points why)
+payment : (from to : Player) (points : ℕ) (why : Reason) → TakesNone (payment_move from to points why)
 payment from to points why = record { none = taken-paid from to points why }
 
 two : (xs ys : List Move) → TakesNone xs → TakesNone ys → TakesNone (xs ++ ys)
@@ -72,18 +72,18 @@ no-bets riichi = each (λ player. bet (of_player riichi player) player) (λ play
 no-ordinary : (dealer from winner : Player) (counters : ℕ) (worth : Worth) → TakesNone (ordinary_ron dealer from winner counters worth)
 unfolding ordinary_ron
 no-ordinary dealer from winner counters worth =
-    two (paid from winner (ron_price worth (is_same_player winner dealer)) why.Ron) (paid from winner (300 * counters) why.Counters)
+    two (payment_move from winner (ron_price worth (is_same_player winner dealer)) why.Ron) (payment_move from winner (300 * counters) why.Counters)
     (payment from winner (ron_price worth (is_same_player winner dealer)) why.Ron) (payment from winner (300 * counters) why.Counters)
 
-pair : (one other : Player) (winner : Player) (points more : ℕ) (reason another : Reason) → TakesNone (paid one winner points reason ++ paid other winner more another)
+pair : (one other : Player) (winner : Player) (points more : ℕ) (reason another : Reason) → TakesNone (payment_move one winner points reason ++ payment_move other winner more another)
 pair one other winner points more reason another =
-    two (paid one winner points reason) (paid other winner more another) (payment one winner points reason) (payment other winner more another)
+    two (payment_move one winner points reason) (payment_move other winner more another) (payment one winner points reason) (payment other winner more another)
 
 pairs : (one other : Player) (winner : Player) (a b c d : ℕ) (r s t u : Reason)
-    → TakesNone (paid one winner a r ++ paid other winner b s ++ paid other winner c t ++ paid one winner d u)
+    → TakesNone (payment_move one winner a r ++ payment_move other winner b s ++ payment_move other winner c t ++ payment_move one winner d u)
 pairs one other winner a b c d r s t u =
-    two (paid one winner a r ++ paid other winner b s ++ paid other winner c t) (paid one winner d u)
-    (two (paid one winner a r ++ paid other winner b s) (paid other winner c t) (pair one other winner a b r s) (payment other winner c t))
+    two (payment_move one winner a r ++ payment_move other winner b s ++ payment_move other winner c t) (payment_move one winner d u)
+    (two (payment_move one winner a r ++ payment_move other winner b s) (payment_move other winner c t) (pair one other winner a b r s) (payment other winner c t))
     (payment one winner d u)
 
 no-shared : (dealer from winner : Player) (counters : ℕ) (worth : Worth) (liable : Liable) → TakesNone (shared_ron dealer from winner counters worth liable)
@@ -99,7 +99,7 @@ no-won dealer from winner counters worth (Some liable) =
     (no-ordinary dealer from winner counters worth) (no-shared dealer from winner counters worth liable)
 
 no-won_if : (dealer from winner : Player) (counters : ℕ) (win : Option Win) → TakesNone (won_if dealer from winner counters win)
-unfolding won
+unfolding one_ron
 no-won_if dealer from winner counters None = empty
 no-won_if dealer from winner counters (Some win) = no-won dealer from winner counters win.worth win.liable
 
@@ -115,7 +115,7 @@ no-drawn_from : (dealer winner : Player) (worth : Worth) (counters : ℕ) (reaso
 unfolding drawn_from
 no-drawn_from dealer winner worth counters reason payer =
     let price = price_between dealer worth payer winner in
-    either (is_same_player payer winner) [] (paid payer winner price reason ++ paid payer winner (100 * counters) why.Counters) empty
+    either (is_same_player payer winner) [] (payment_move payer winner price reason ++ payment_move payer winner (100 * counters) why.Counters) empty
     (pair payer payer winner price (100 * counters) reason why.Counters)
 
 no-drawn : (dealer winner : Player) (worth : Worth) (counters : ℕ) (reason : Reason) → TakesNone (drawn dealer winner worth counters reason)
@@ -127,9 +127,9 @@ unfolding liable_tsumo
 no-liable state winner worth liable =
     let price = ron_price (Yakuman liable.limits) (is_same_player winner state.dealer) in
     let others = drawn state.dealer winner (other_limits worth liable.limits) 0 why.Tsumo in
-    let counters = paid liable.player winner (300 * state.counters) why.Counters in
-    two (paid liable.player winner price why.Liable ++ others) counters
-    (two (paid liable.player winner price why.Liable) others (payment liable.player winner price why.Liable)
+    let counters = payment_move liable.player winner (300 * state.counters) why.Counters in
+    two (payment_move liable.player winner price why.Liable ++ others) counters
+    (two (payment_move liable.player winner price why.Liable) others (payment liable.player winner price why.Liable)
     (no-drawn state.dealer winner (other_limits worth liable.limits) 0 why.Tsumo))
     (payment liable.player winner (300 * state.counters) why.Counters)
 
@@ -145,7 +145,7 @@ no-share : (ready : ByPlayer Bool) (payer payee : Player) → TakesNone (share_b
 unfolding share_between
 no-share ready payer payee =
     let share = ready_share (count_players (of_player ready)) in
-    either (not (of_player ready payer) && of_player ready payee) (paid payer payee share why.Ready) [] (payment payer payee share why.Ready) empty
+    either (not (of_player ready payer) && of_player ready payee) (payment_move payer payee share why.Ready) [] (payment payer payee share why.Ready) empty
 
 no-unready : (ready : ByPlayer Bool) (payer : Player) → TakesNone (unready_moves ready payer)
 unfolding unready_moves
@@ -171,7 +171,7 @@ no-draw dealer ready nagashi =
 no-amends : (dealer player other : Player) → TakesNone (amends dealer player other)
 no-amends dealer player other =
     let price = price_between dealer mangan player other in
-    either (is_same_player other player) [] (paid player other price why.Chombo) empty (payment player other price why.Chombo)
+    either (is_same_player other player) [] (payment_move player other price why.Chombo) empty (payment player other price why.Chombo)
 
 no-chombo : (cost : ChomboCost) (dealer player : Player) → TakesNone (chombo_moves cost dealer player)
 unfolding chombo_moves
@@ -254,15 +254,15 @@ few riichi sticks rest most =
     omega (arith, sum_by-append sticks_taken (bets riichi) rest, sum_by-append sticks_bet (bets riichi) rest, (no-bets riichi).none, bets-count riichi)
 
 -- after the bets what is paid takes no stick, and the winner no more than lie
-won_few : (riichi : ByPlayer Bool) (sticks : ℕ) (paid won : List Move) → TakesNone paid → takes won ≡ sticks + count_players (of_player riichi)
-    → takes (bets riichi ++ paid ++ won) ≤ sticks + sum_by sticks_bet (bets riichi ++ paid ++ won)
-won_few riichi sticks paid won none all =
+won_few : (riichi : ByPlayer Bool) (sticks : ℕ) (payments winnings : List Move) → TakesNone payments → takes winnings ≡ sticks + count_players (of_player riichi)
+    → takes (bets riichi ++ payments ++ winnings) ≤ sticks + sum_by sticks_bet (bets riichi ++ payments ++ winnings)
+won_few riichi sticks payments winnings none all =
     omega (
       arith,
-      sum_by-append sticks_taken (bets riichi ++ paid) won,
-      sum_by-append sticks_taken (bets riichi) paid,
-      sum_by-append sticks_bet (bets riichi ++ paid) won,
-      sum_by-append sticks_bet (bets riichi) paid,
+      sum_by-append sticks_taken (bets riichi ++ payments) winnings,
+      sum_by-append sticks_taken (bets riichi) payments,
+      sum_by-append sticks_bet (bets riichi ++ payments) winnings,
+      sum_by-append sticks_bet (bets riichi) payments,
       (no-bets riichi).none,
       none.none,
       bets-count riichi,

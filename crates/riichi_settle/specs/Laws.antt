@@ -46,11 +46,11 @@ abbrev pub plain : Worth → Win
 plain worth = record { worth = worth; liable = None }
 
 -- one wins, and no other
-abbrev pub only : Player → Worth → ByPlayer (Option Win)
-only winner worth = with_player (same_for_all None) winner (Some (plain worth))
+abbrev pub lone_win : Player → Worth → ByPlayer (Option Win)
+lone_win winner worth = with_player (same_for_all None) winner (Some (plain worth))
 
 abbrev pub lone_ron : Player → Player → Worth → Outcome
-lone_ron from winner worth = Ron from (only winner worth) nobody
+lone_ron from winner worth = Ron from (lone_win winner worth) nobody
 
 abbrev pub lone_tsumo : Player → Worth → Outcome
 lone_tsumo winner worth = Tsumo winner (plain worth) nobody
@@ -63,10 +63,10 @@ abbrev pub tsumo_payment : GameState → Player → Worth → Payment
 tsumo_payment state winner worth = by_tsumo (base_of_worth worth) (is_same_player winner state.dealer) state.counters
 
 -- what one who is dealer, or is not, pays
-abbrev pub share_of : Payment → Bool → ℕ
-share_of (payment.Ron points) dealer = points
-share_of (payment.Tsumo other of_dealer) dealer = if dealer then of_dealer else other
-share_of (payment.DealerTsumo each) dealer = each
+abbrev pub share_of_payment : Payment → Bool → ℕ
+share_of_payment (payment.Ron points) dealer = points
+share_of_payment (payment.Tsumo other of_dealer) dealer = if dealer then of_dealer else other
+share_of_payment (payment.DealerTsumo each) dealer = each
 
 abbrev pub change_of : GameState → TableRules → Outcome → Player → ℤ
 change_of state rules outcome player = change_by (moves_of state rules outcome) player
@@ -86,7 +86,7 @@ SettlesLoneRon = (state : GameState) (rules : TableRules) (from winner player : 
 abbrev pub tsumo_change : GameState → Player → Worth → Player → ℤ
 tsumo_change state winner worth player =
     if is_same_player winner player then pos (gain_of (tsumo_payment state winner worth) state.sticks)
-    else neg_ℤ (pos (share_of (tsumo_payment state winner worth) (is_same_player player state.dealer)))
+    else neg_ℤ (pos (share_of_payment (tsumo_payment state winner worth) (is_same_player player state.dealer)))
 
 abbrev pub SettlesLoneTsumo : Type 0
 SettlesLoneTsumo = (state : GameState) (rules : TableRules) (winner player : Player) (worth : Worth)

@@ -68,8 +68,8 @@ unfoldable pub change_by : List Move → Player → ℤ
 change_by moves player = pos (sum_by (got_by player) moves) -ℤ pos (sum_by (given_by player) moves)
 
 -- the points of each player afterwards
-abbrev pub points_by : ByPlayer ℤ → List Move → ByPlayer ℤ
-points_by points moves = by_players (λ player. of_player points player +ℤ change_by moves player)
+abbrev pub points_after_moves : ByPlayer ℤ → List Move → ByPlayer ℤ
+points_after_moves points moves = by_players (λ player. of_player points player +ℤ change_by moves player)
 
 -- the sticks that lay, and those that are bet, less those that are taken
 unfoldable pub sticks_by : ℕ → List Move → ℕ
