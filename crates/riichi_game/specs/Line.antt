@@ -23,10 +23,10 @@ abbrev pub fault_if : OutcomeFault → Bool → Option OutcomeFault
 fault_if fault holds = if holds then Some fault else None
 
 -- the first of some faults that holds
-abbrev pub first_fault : List (Option OutcomeFault) → Option OutcomeFault
-first_fault [] = None
-first_fault (None ∷ faults) = first_fault faults
-first_fault (Some fault ∷ faults) = Some fault
+abbrev pub first_outcome_fault : List (Option OutcomeFault) → Option OutcomeFault
+first_outcome_fault [] = None
+first_outcome_fault (None ∷ faults) = first_outcome_fault faults
+first_outcome_fault (Some fault ∷ faults) = Some fault
 
 -- ---- who takes part
 
@@ -94,7 +94,7 @@ has_nagashi other = false
 -- ---- together
 
 unfoldable pub line_fault : TableRules → Outcome → Option OutcomeFault
-line_fault rules outcome = first_fault (
+line_fault rules outcome = first_outcome_fault (
     fault_if fault.NobodyWins (nobody_wins outcome)
     ∷ fault_if fault.DiscarderWins (discarder_wins outcome)
     ∷ fault_if fault.WinnerLiable (winner_liable (wins_in outcome))

@@ -17,7 +17,7 @@ use Rattle.riichi_score.specs.declared.answer.WinAnswer.{WinAnswer}
 use Rattle.riichi_score.specs.declared.answer.WinAnswer.TheVariants as answer
 use Rattle.riichi_table.specs.declared.worth.Worth.{Worth}
 use Rattle.riichi_game.specs.Hands.{worth_of_score}
-use Rattle.riichi_game.specs.Values.{counted_worth, limit_worth}
+use Rattle.riichi_game.specs.Values.{worth_of_han_and_fu, worth_of_limit}
 use Rattle.riichi_game.specs.declared.values.LimitHand.{LimitHand}
 use Rattle.riichi_game.specs.declared.values.LimitHand.TheVariants as limit
 use Rattle.riichi_game_text.specs.Numbers.{number_of}
@@ -84,7 +84,7 @@ for_one (Some worth) = Ok (record { worth = worth; limits = Some 1 })
 
 -- han are 99 at most
 abbrev pub counted_value : Rules → By → ℕ → ℕ → Result ValueWorth GameFault
-counted_value rules by han fu = if nat_le han 99 then for_one (counted_worth rules by han fu) else Err G6
+counted_value rules by han fu = if nat_le han 99 then for_one (worth_of_han_and_fu rules by han fu) else Err G6
 
 -- three dragons are one limit; four winds are one, or two where the rules double them
 abbrev pub own_limits : Rules → ℕ → Option ℕ
@@ -108,5 +108,5 @@ worth_of_read rules (Err words) = Err (G7 (fault.Words words))
 -- by the rules for hands and what the game knows; of a hand with its word and the words behind it
 abbrev pub value_worth : Rules → Known → WrittenValue → List ℕ → List (List ℕ) → Result ValueWorth GameFault
 value_worth rules known (written.Counted han fu) hand words = counted_value rules known.by han fu
-value_worth rules known (written.Limit named) hand words = for_one (limit_worth rules named)
+value_worth rules known (written.Limit named) hand words = for_one (worth_of_limit rules named)
 value_worth rules known written.Hand hand words = worth_of_read rules (hand_of rules known hand words)
