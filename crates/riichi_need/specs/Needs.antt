@@ -78,14 +78,14 @@ base_passing rules by passes han fu =
     if occurs rules by han fu && passes (base_of rules han fu) then Some (base_of rules han fu) else None
 
 -- some hand of so many han has these base points.
-abbrev pub IsRowOf : Rules → By → ℕ → ℕ → Type 0
-IsRowOf rules by han base =
+abbrev pub IsBaseOfHan : Rules → By → ℕ → ℕ → Type 0
+IsBaseOfHan rules by han base =
     SomeIndex all_fu (λ k. (occurs rules by han (slice_index all_fu k) ≡ true) × (base_of rules han (slice_index all_fu k) ≡ base))
 
 -- the least of the hands of so many han
 abbrev pub IsLeastOfHan : Question → Way → Aim → ℕ → Option ℕ → Type 0
 IsLeastOfHan question way aim han base =
-    IsLeast (IsRowOf question.rules.hand (way_by way) han) (reaches question aim way) base
+    IsLeast (IsBaseOfHan question.rules.hand (way_by way) han) (reaches question aim way) base
 
 -- the least of the limit hands
 abbrev pub IsLeastLimit : Question → Way → Aim → Option ℕ → Type 0
