@@ -2,7 +2,7 @@
 use Rattle.std.proofs.Common.{◌≡◌, ℕ, List, [], ◌∷◌, map, Option, None, Some, refl, sym, subst, ap, ◌∙◌}
 use Rattle.riichi_hand.specs.Rules.{Rules}
 use Rattle.riichi_hand.proofs.RulesTexts.{names_one}
-use Rattle.riichi_game_text.specs.GameLines.{game_of, hand_word}
+use Rattle.riichi_game_text.specs.GameLines.{game_of, hand_rules_word}
 use Rattle.riichi_game_text.specs.TableWords.{IsHandRules}
 use Rattle.desk_lines.specs.Telling.{report_of}
 use Rattle.desk_games.specs.Replies.{LineOfGame, Odd, Blank, Begins, Entry, seen_in, Reply, begin_reply, IsReplyTo, AreReplies}
@@ -22,7 +22,7 @@ reply_one : (given : Rules) (now : GameDesk) (seen : LineOfGame) (line : List �
 reply_one given now Odd line one other is also = is ∙ sym also
 reply_one given now Blank line one other is also = is ∙ sym also
 reply_one given now (Begins words) line one other is also =
-    is.2 ∙ ap (λ (hand : Option Rules). begin_reply now (game_of hand words)) (rules_one given (hand_word words) is.0 also.0 is.1 also.1) ∙ sym also.2
+    is.2 ∙ ap (λ (hand : Option Rules). begin_reply now (game_of hand words)) (rules_one given (hand_rules_word words) is.0 also.0 is.1 also.1) ∙ sym also.2
 reply_one given now Entry line one other is also = is ∙ sym also
 
 replies_one : (given : Rules) (first : GameDesk) (lines : List (List ℕ)) (one other : List Reply) (last other_last : GameDesk) → AreReplies given first lines one last → AreReplies given first lines other other_last

@@ -5,7 +5,7 @@ use Rattle.std.specs.List.{list_any, cons_option}
 use Rattle.riichi_hand.specs.Rules.{Rules}
 use Rattle.riichi_table.specs.declared.outcome.Outcome.{Outcome}
 use Rattle.riichi_game.specs.Games.{after_all}
-use Rattle.riichi_game_text.specs.Entries.{entry_of}
+use Rattle.riichi_game_text.specs.Entries.{outcome_of_entry}
 use Rattle.riichi_game_text.specs.declared.fault.GameFault.{GameFault}
 use Rattle.riichi_game_text.specs.declared.fault.GameFault.TheVariants.{G1, G14}
 use Rattle.desk_games.specs.Played.{GameSoFar}
@@ -57,7 +57,7 @@ goes_on_one given game Odd line reply other is = subst (λ (r : Reply). GoesOn g
 goes_on_one given game Blank line reply other is = subst (λ (r : Reply). GoesOn game r) (sym is) (blank_so game)
 goes_on_one given game (Begins words) line reply other is = absurd (cc)
 goes_on_one given game Entry line reply other is =
-    subst (λ (r : Reply). GoesOn game r) (sym is) (either_so game game.is_held (entry_of game.names game.progress game.rules line))
+    subst (λ (r : Reply). GoesOn game r) (sym is) (either_so game game.is_held (outcome_of_entry game.names game.progress game.rules line))
 
 -- ---- more lines
 
@@ -92,7 +92,7 @@ none_taken given game Blank line reply other held is = ap (λ (r : Reply). r.out
 none_taken given game (Begins words) line reply other held is = absurd (cc)
 none_taken given game Entry line reply other held is =
     ap (λ (r : Reply). r.outcome) is
-    ∙ ap (λ (b : Bool). (if b then refusal (desk.Game game) G14 else entry_reply game (entry_of game.names game.progress game.rules line)).outcome) held
+    ∙ ap (λ (b : Bool). (if b then refusal (desk.Game game) G14 else entry_reply game (outcome_of_entry game.names game.progress game.rules line)).outcome) held
 
 pub held_takes_none : HeldTakesNone
 held_takes_none given game [] replies last none held are = ap outcomes_in are.0

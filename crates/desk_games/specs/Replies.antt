@@ -9,9 +9,9 @@ use Rattle.riichi_table.specs.declared.outcome.Outcome.TheVariants.{Penalty, End
 use Rattle.riichi_game.specs.Games.{after_one}
 use Rattle.riichi_game.specs.declared.game.Progress.{Progress}
 use Rattle.riichi_game_text.specs.Answers.{begun_text, deal_text, penalty_text}
-use Rattle.riichi_game_text.specs.Entries.{entry_of, is_odd}
+use Rattle.riichi_game_text.specs.Entries.{outcome_of_entry, is_odd}
 use Rattle.riichi_game_text.specs.FaultTexts.{refused_text}
-use Rattle.riichi_game_text.specs.GameLines.{GameSaid, game_of, hand_word}
+use Rattle.riichi_game_text.specs.GameLines.{GameSaid, game_of, hand_rules_word}
 use Rattle.riichi_game_text.specs.TableWords.{IsHandRules}
 use Rattle.riichi_game_text.specs.Words.{said_in}
 use Rattle.riichi_game_text.specs.declared.fault.GameFault.{GameFault}
@@ -105,7 +105,7 @@ entry_reply game (Ok outcome) = accept game outcome
 abbrev pub game_reply : GameSoFar → List ℕ → Reply
 game_reply game line =
     if game.is_held then refusal (desk.Game game) G14
-    else entry_reply game (entry_of game.names game.progress game.rules line)
+    else entry_reply game (outcome_of_entry game.names game.progress game.rules line)
 
 -- a line that isn't odd and has a first word other than `game`
 abbrev pub other_reply : GameDesk → List ℕ → Reply
@@ -118,7 +118,7 @@ abbrev pub IsReplyTo : Rules → GameDesk → LineOfGame → List ℕ → Reply 
 IsReplyTo given now Odd line reply = reply ≡ refusal now G1
 IsReplyTo given now Blank line reply = reply ≡ blank_reply now
 IsReplyTo given now (Begins words) line reply =
-    (hand : Option Rules) × IsHandRules given (hand_word words) hand × (reply ≡ begin_reply now (game_of hand words))
+    (hand : Option Rules) × IsHandRules given (hand_rules_word words) hand × (reply ≡ begin_reply now (game_of hand words))
 IsReplyTo given now Entry line reply = reply ≡ other_reply now line
 
 -- what a line comes to behind a text of games, under the given rules for hands

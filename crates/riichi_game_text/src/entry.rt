@@ -18,14 +18,14 @@ use riichi_table::{GameState, Outcome, OutcomeFault, TableRules};
 
 /// The outcome of a line of a game that has come so far, or the first fault of the line, G1 to G13. The line comes without the line
 /// feed and the carriage return that ended it.
-#[tactic(auto, unfolding(crate::specs::Entries::entry_of))]
+#[tactic(auto, unfolding(crate::specs::Entries::outcome_of_entry))]
 pub fn read_entry(
     names: &Names,
     progress: &Progress,
     rules: &TableRules,
     line: &[u8],
 ) -> Result<Outcome, GameFault>
-    ensures { result ≡ spec.entry_of (names_in names.now) progress.now rules.now line.now }
+    ensures { result ≡ spec.outcome_of_entry (names_in names.now) progress.now rules.now line.now }
 {
     if is_odd(line) {
         return Err(GameFault::G1);
@@ -33,7 +33,7 @@ pub fn read_entry(
     let outcome = read_outcome(names, rules, &progress.state, line)?;
     match fault(progress, rules, &outcome) {
         None => Ok(outcome),
-        Some(fault) => Err(code_of(fault)),
+        Some(fault) => Err(game_fault_of(fault)),
     }
 }
 
@@ -106,8 +106,8 @@ fn outcome_by(
 }
 
 /// The code of a fault by the rules and by what the table shows.
-fn code_of(fault: OutcomeFault) -> GameFault
-    ensures { result ≡ spec.code_of fault }
+fn game_fault_of(fault: OutcomeFault) -> GameFault
+    ensures { result ≡ spec.game_fault_of fault }
 {
     match fault {
         OutcomeFault::NobodyWins => GameFault::G4,
