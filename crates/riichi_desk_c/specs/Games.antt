@@ -19,9 +19,9 @@ use Rattle.riichi_win_arrays.specs.declared.win_row.WinRow.{WinRow}
 use Rattle.riichi_game_rows.specs.FaultNumbers.{row_fault_number}
 use Rattle.riichi_game_rows.specs.FinalRows.{finals_row}
 use Rattle.riichi_game_rows.specs.HandRows.{worth_of_row, told_number}
-use Rattle.riichi_game_rows.specs.MoveRows.{AreMoved, changes_row}
+use Rattle.riichi_game_rows.specs.MoveRows.{AreMovesPut, changes_row}
 use Rattle.riichi_game_rows.specs.NeedRows.{needs_row, question_in}
-use Rattle.riichi_game_rows.specs.Playing.{IsPlayed, accepted_outcome}
+use Rattle.riichi_game_rows.specs.Playing.{IsPlayedByRows, accepted_outcome}
 use Rattle.riichi_game_rows.specs.StateRows.{progress_in, progress_row}
 use Rattle.riichi_game_rows.specs.WorthRows.{counted_base, worth_row}
 use Rattle.riichi_game_rows.specs.declared.fault_numbers.RowFault.{RowFault}
@@ -60,7 +60,7 @@ IsFirst (Some rules) told before after = (told ≡ 0) × (after ≡ progress_row
 -- a game goes on by so many rows of outcomes; the fault is that of the next row, or 0
 pub record GoesOn (game : Game) (rows : List OutcomeRow) (fault accepted : ℕ) (after : ProgressRow) : Type 0 where
   pub played : Played
-  pub is_played : IsPlayed game.progress game.rules rows played
+  pub is_played : IsPlayedByRows game.progress game.rules rows played
   pub fault_is : fault ≡ row_fault_number played.fault
   pub accepted_is : accepted ≡ played.accepted
   pub after_is : after ≡ progress_row played.progress
@@ -75,7 +75,7 @@ GoesOnBy (Ok game) rows fault accepted before after = GoesOn game rows fault acc
 -- as many moves as have a place, and what all of them change
 abbrev pub AreTold : ℕ → List Move → List MoveRow → List MoveRow → ChangesRow → Type 0
 AreTold sticks moves before after changes =
-    AreMoved (min (length moves) (length before)) moves before after × (changes ≡ changes_row sticks moves)
+    AreMovesPut (min (length moves) (length before)) moves before after × (changes ≡ changes_row sticks moves)
 
 -- nothing is told of an outcome that is refused
 abbrev pub TellsMovesOf : Game → Result Outcome RowFault → ℕ → List MoveRow → List MoveRow → ChangesRow → ChangesRow → Type 0
