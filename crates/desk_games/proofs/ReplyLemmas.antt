@@ -12,20 +12,20 @@ use Rattle.desk_lines.specs.declared.line_kind.LineKind.{LineKind}
 use Rattle.desk_lines.specs.declared.report.DeskReport.{DeskReport}
 use Rattle.desk_lines.specs.Telling.{IsToldAs, answers_in, report_of, report_with}
 use Rattle.desk_lines.proofs.TellingLemmas.{report_of_more}
-use Rattle.desk_games.specs.Replies.{LineOfGame, Odd, Blank, Begins, Entry, line_by, seen_in, Reply, blank_reply, refusal, other_reply, IsReply, IsReplyTo, AreReplies}
-use Rattle.desk_games.specs.Texts.{answer_text, number_if, answers_from, kind_in, Puts, AnswersLines}
+use Rattle.desk_games.specs.Replies.{LineOfGame, Odd, Blank, Begins, Entry, line_of_words, seen_in, Reply, blank_reply, refusal, other_reply, IsReply, IsReplyTo, AreReplies}
+use Rattle.desk_games.specs.Texts.{text_of_reply, number_if, answers_from, kind_in, PutsReply, AnswersLines}
 use Rattle.desk_games.specs.declared.desk.GameDesk.{GameDesk}
 use Rattle.desk_games.specs.declared.games.Games.{Games}
 
 -- ---- what a line is
 
 seen_odd : (line : List ℕ) → is_odd line ≡ true → seen_in line ≡ Odd
-seen_odd line odd = ap (λ (b : Bool). if b then Odd else line_by (said_in line)) odd
+seen_odd line odd = ap (λ (b : Bool). if b then Odd else line_of_words (said_in line)) odd
 
-seen_by : (line : List ℕ) (words : List (List ℕ)) → is_odd line ≡ false → said_in line ≡ words → seen_in line ≡ line_by words
-seen_by line words even said = ap (λ (b : Bool). if b then Odd else line_by (said_in line)) even ∙ ap line_by said
+seen_by : (line : List ℕ) (words : List (List ℕ)) → is_odd line ≡ false → said_in line ≡ words → seen_in line ≡ line_of_words words
+seen_by line words even said = ap (λ (b : Bool). if b then Odd else line_of_words (said_in line)) even ∙ ap line_of_words said
 
-begins_if : (first : List ℕ) (words : List (List ℕ)) (is : Bool) → bytes_eq first (codes "game") ≡ is → line_by (first ∷ words) ≡ (if is then Begins words else Entry)
+begins_if : (first : List ℕ) (words : List (List ℕ)) (is : Bool) → bytes_eq first (codes "game") ≡ is → line_of_words (first ∷ words) ≡ (if is then Begins words else Entry)
 begins_if first words is same = ap (λ (b : Bool). if b then Begins words else Entry) same
 
 reply_by : (given : Rules) (now : GameDesk) (line : List ℕ) (seen : LineOfGame) (reply : Reply) → seen_in line ≡ seen → IsReplyTo given now seen line reply → IsReply given now line reply
@@ -96,26 +96,26 @@ onto_both Option.None answers more = refl
 onto_both (Option.Some answer) answers more = refl
 
 answers_last : (is_numbered : Bool) (number last : ℕ) (replies : List Reply) (reply : Reply) → last ≡ number + length replies
-    → answers_from is_numbered number (replies ++ reply ∷ []) ≡ answers_from is_numbered number replies ++ answers_in (answer_text (number_if is_numbered last) reply)
+    → answers_from is_numbered number (replies ++ reply ∷ []) ≡ answers_from is_numbered number replies ++ answers_in (text_of_reply (number_if is_numbered last) reply)
 answers_last is_numbered number last [] reply is =
-    let same : number ≡ last = grind (arith, is) in ap (λ n. answers_in (answer_text (number_if is_numbered n) reply)) same
+    let same : number ≡ last = grind (arith, is) in ap (λ n. answers_in (text_of_reply (number_if is_numbered n) reply)) same
 answers_last is_numbered number last (next ∷ replies) reply is =
-    ap (cons_option (answer_text (number_if is_numbered number) next)) (answers_last is_numbered (number + 1) last replies reply (grind (arith, is)))
-    ∙ onto_both (answer_text (number_if is_numbered number) next) (answers_from is_numbered (number + 1) replies) (answers_in (answer_text (number_if is_numbered last) reply))
+    ap (cons_option (text_of_reply (number_if is_numbered number) next)) (answers_last is_numbered (number + 1) last replies reply (grind (arith, is)))
+    ∙ onto_both (text_of_reply (number_if is_numbered number) next) (answers_from is_numbered (number + 1) replies) (answers_in (text_of_reply (number_if is_numbered last) reply))
 
 kinds_last : (replies : List Reply) (reply : Reply) → report_of (map kind_in (replies ++ reply ∷ [])) ≡ report_with (report_of (map kind_in replies)) reply.kind
 kinds_last replies reply = ap report_of (map-append kind_in replies (reply ∷ [])) ∙ report_of_more (map kind_in replies) reply.kind
 
 answers_line : (is_numbered : Bool) (given : Rules) (first old new : GameDesk) (lines answers : List (List ℕ)) (report : DeskReport) (number : ℕ) (line next : List ℕ) (reply : Reply) (kind : LineKind)
     → number ≡ length lines + 1 → IsToldAs 4096 line next → AnswersLines is_numbered given first lines answers report old → IsReply given old line reply → kind ≡ reply.kind → new ≡ reply.desk
-    → AnswersLines is_numbered given first (lines ++ next ∷ []) (answers ++ answers_in (answer_text (number_if is_numbered number) reply)) (report_with report kind) new
+    → AnswersLines is_numbered given first (lines ++ next ∷ []) (answers ++ answers_in (text_of_reply (number_if is_numbered number) reply)) (report_with report kind) new
 answers_line is_numbered given first old new lines answers report number line next reply kind counted as_this before is kind_is desk_is =
     let count = replies_length given first old lines before.replies before.are in
     record {
       replies = before.replies ++ reply ∷ [];
       are = subst (λ (d : GameDesk). AreReplies given first (lines ++ next ∷ []) (before.replies ++ reply ∷ []) d) (sym desk_is)
           (replies_last given first old lines next before.replies reply before.are (reply_as given old line next reply as_this is));
-      answers_are = ap (λ (told : List (List ℕ)). told ++ answers_in (answer_text (number_if is_numbered number) reply)) before.answers_are
+      answers_are = ap (λ (told : List (List ℕ)). told ++ answers_in (text_of_reply (number_if is_numbered number) reply)) before.answers_are
           ∙ sym (answers_last is_numbered 1 number before.replies reply (omega (arith, counted, count)));
       report_is = ap (λ (r : DeskReport). report_with r kind) before.report_is ∙ ap (report_with (report_of (map kind_in before.replies))) kind_is ∙ sym (kinds_last before.replies reply);
     }
@@ -126,15 +126,15 @@ answers_none is_numbered given first = record { replies = []; are = (refl, refl)
 
 -- one more line was told
 pub tells_line : (first old new : Games) (lines answers : List (List ℕ)) (report : DeskReport) (number : ℕ) (front : Option ℕ) (line next : List ℕ) (reply : Reply) (kind : LineKind) (before after : List ℕ)
-    → front ≡ number_if old.is_numbered number → (new.given ≡ old.given) × (new.is_numbered ≡ old.is_numbered) → IsReply old.given old.desk line reply → Puts front reply kind before after new.desk
+    → front ≡ number_if old.is_numbered number → (new.given ≡ old.given) × (new.is_numbered ≡ old.is_numbered) → IsReply old.given old.desk line reply → PutsReply front reply kind before after new.desk
     → number ≡ length lines + 1 → IsToldAs 4096 line next
     → (old.given ≡ first.given) × (old.is_numbered ≡ first.is_numbered) × AnswersLines first.is_numbered first.given first.desk lines answers report old.desk
     → (new.given ≡ first.given) × (new.is_numbered ≡ first.is_numbered)
-    × AnswersLines first.is_numbered first.given first.desk (lines ++ next ∷ []) (answers ++ answers_in (answer_text front reply)) (report_with report kind) new.desk
+    × AnswersLines first.is_numbered first.given first.desk (lines ++ next ∷ []) (answers ++ answers_in (text_of_reply front reply)) (report_with report kind) new.desk
 tells_line first old new lines answers report number front line next reply kind before after front_is same is puts counted as_this tells = (
   same.0 ∙ tells.0,
   same.1 ∙ tells.1,
-  subst (λ (f : Option ℕ). AnswersLines first.is_numbered first.given first.desk (lines ++ next ∷ []) (answers ++ answers_in (answer_text f reply)) (report_with report kind) new.desk)
+  subst (λ (f : Option ℕ). AnswersLines first.is_numbered first.given first.desk (lines ++ next ∷ []) (answers ++ answers_in (text_of_reply f reply)) (report_with report kind) new.desk)
       (sym (front_is ∙ ap (λ (b : Bool). number_if b number) tells.1))
       (answers_line first.is_numbered first.given first.desk old.desk new.desk lines answers report number line next reply kind counted as_this tells.2
       (subst (λ (rules : Rules). IsReply rules old.desk line reply) tells.0 is) puts.kind_is puts.desk_is),

@@ -9,7 +9,7 @@ use Rattle.riichi_game_text.specs.TableWords.{IsHandRules}
 use Rattle.desk_lines.specs.declared.report.DeskReport.{DeskReport}
 use Rattle.desk_lines.specs.Telling.{is_refused}
 use Rattle.desk_games.specs.Played.{GameSoFar}
-use Rattle.desk_games.specs.Desks.{begun}
+use Rattle.desk_games.specs.Desks.{new_game}
 use Rattle.desk_games.specs.Replies.{LineOfGame, Odd, Blank, Begins, Entry, seen_in, Reply, AreReplies}
 use Rattle.desk_games.specs.Texts.{AnswersLines}
 use Rattle.desk_games.specs.declared.desk.GameDesk.{GameDesk}
@@ -73,7 +73,7 @@ pub record IsAtHand (given : Rules) (lines : List (List ℕ)) (game : GameSoFar)
   pub said : GameSaid
   pub says : game_of hand words ≡ Some said
   pub replies : List Reply
-  pub are : AreReplies given (desk.Game (begun said)) behind replies (desk.Game game)
+  pub are : AreReplies given (desk.Game (new_game said)) behind replies (desk.Game game)
   pub names : game.names ≡ said.names
   pub rules : game.rules ≡ said.rules
   pub progress : game.progress ≡ after_all (first_progress said.rules) said.rules (outcomes_in replies)

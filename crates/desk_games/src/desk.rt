@@ -5,7 +5,7 @@ ghost use Rattle.desk_lines.specs.Outbox.{HasRoomForLine, HasRoomForText};
 ghost use Rattle.desk_lines.specs.Telling.{with_line_feed};
 ghost use Rattle.desk_games.specs.Desks as spec;
 ghost use Rattle.desk_games.specs.Replies.{refusal, other_reply};
-ghost use Rattle.desk_games.specs.Texts.{Puts};
+ghost use Rattle.desk_games.specs.Texts.{PutsReply};
 
 use crate::game_at_hand::GameAtHand;
 use crate::puts::put_refused;
@@ -36,7 +36,7 @@ impl GameDesk {
 
     /// Whether a line of the game at hand was refused, the line `game` among them.
     fn is_held(&self) -> bool
-        ensures { result ≡ spec.is_held self.now }
+        ensures { result ≡ spec.is_held_desk self.now }
     {
         match self {
             GameDesk::NoGame => false,
@@ -47,7 +47,7 @@ impl GameDesk {
 
     /// From now on each line of the game at hand is refused.
     fn hold(&mut self)
-        ensures { self.new ≡ spec.held self.old }
+        ensures { self.new ≡ spec.held_desk self.old }
     {
         if let GameDesk::Game(game) = self {
             game.hold();
@@ -58,7 +58,7 @@ impl GameDesk {
     pub(crate) fn put_end(&self, outbox: &mut Outbox)
         requires room { HasRoomForLine outbox.old }
         ensures put { outbox.new.bytes.items
-            ≡ outbox.old.bytes.items ++ with_line_feed (spec.end_of self.now) }
+            ≡ outbox.old.bytes.items ++ with_line_feed (spec.told_at_end self.now) }
         ensures room { HasRoomForText outbox.new }
     {
         if let GameDesk::Game(game) = self {
@@ -76,7 +76,7 @@ impl GameDesk {
         outbox: &mut Outbox,
     ) -> LineKind
         requires { HasRoomForText outbox.old }
-        ensures { Puts front (refusal self.old fault) result
+        ensures { PutsReply front (refusal self.old fault) result
             outbox.old.bytes.items outbox.new.bytes.items self.new }
     {
         let told = if self.is_held() {
@@ -92,7 +92,7 @@ impl GameDesk {
     /// Takes a line that isn't odd and has a first word other than `game`, and puts its answer.
     pub(crate) fn take(&mut self, front: Option<u64>, line: &[u8], outbox: &mut Outbox) -> LineKind
         requires { HasRoomForText outbox.old }
-        ensures { Puts front (other_reply self.old line.now) result
+        ensures { PutsReply front (other_reply self.old line.now) result
             outbox.old.bytes.items outbox.new.bytes.items self.new }
     {
         match self {

@@ -6,9 +6,9 @@ ghost use Rattle.riichi_game_text.specs.Names.{names_in};
 ghost use Rattle.desk_lines.specs.Outbox.{HasRoomForText};
 ghost use Rattle.desk_games.specs.Played.{hold};
 ghost use Rattle.desk_games.specs.declared.desk.GameDesk.TheVariants.{Game};
-ghost use Rattle.desk_games.specs.Desks.{begun, end_text};
+ghost use Rattle.desk_games.specs.Desks.{new_game, end_text};
 ghost use Rattle.desk_games.specs.Replies.{accept, game_reply};
-ghost use Rattle.desk_games.specs.Texts.{Puts};
+ghost use Rattle.desk_games.specs.Texts.{PutsReply};
 
 use crate::puts::{put_outcome, put_refused};
 use desk_lines::{LineKind, Outbox};
@@ -44,7 +44,7 @@ impl Model for GameAtHand {
 impl GameAtHand {
     /// The game that a line begins, before its first deal.
     pub fn new(line: &GameLine) -> GameAtHand
-        ensures { result ≡ begun (said_by line.now) }
+        ensures { result ≡ new_game (said_by line.now) }
     {
         GameAtHand {
             names: line.names,
@@ -108,7 +108,7 @@ impl GameAtHand {
     /// Takes a line of the game that isn't odd and has a first word other than `game`, and puts its answer.
     pub(crate) fn take(&mut self, front: Option<u64>, line: &[u8], outbox: &mut Outbox) -> LineKind
         requires { HasRoomForText outbox.old }
-        ensures { Puts front (game_reply self.old line.now) result
+        ensures { PutsReply front (game_reply self.old line.now) result
             outbox.old.bytes.items outbox.new.bytes.items (Game self.new) }
     {
         if self.is_held {
@@ -128,7 +128,7 @@ impl GameAtHand {
     /// Goes on by an outcome that a line says, and puts its answer.
     fn accept(&mut self, front: Option<u64>, outcome: &Outcome, outbox: &mut Outbox) -> LineKind
         requires { HasRoomForText outbox.old }
-        ensures { Puts front (accept self.old outcome.now) result
+        ensures { PutsReply front (accept self.old outcome.now) result
             outbox.old.bytes.items outbox.new.bytes.items (Game self.new) }
     {
         let before = self.progress;

@@ -4,7 +4,7 @@ ghost use Rattle.riichi_game_text.specs.Words.{said_in};
 ghost use Rattle.desk_lines.specs.Outbox.{HasRoomForLine};
 ghost use Rattle.desk_games.specs.declared.desk.GameDesk.TheVariants.{NoGame};
 ghost use Rattle.desk_games.specs.Replies.{Reply, IsReply, IsReplyTo, Begins};
-ghost use Rattle.desk_games.specs.Texts.{Puts};
+ghost use Rattle.desk_games.specs.Texts.{PutsReply};
 ghost use Rattle.desk_games.specs.Texts as spec;
 
 use crate::desk::GameDesk;
@@ -53,7 +53,7 @@ impl Games {
         ensures given { (self.new.given ≡ self.old.given)
             × (self.new.is_numbered ≡ self.old.is_numbered) }
         ensures reply { (reply : Reply) × IsReply self.old.given self.old.desk line.now reply
-            × Puts front reply result outbox.old.bytes.items outbox.new.bytes.items self.new.desk }
+            × PutsReply front reply result outbox.old.bytes.items outbox.new.bytes.items self.new.desk }
     {
         if is_odd(line) {
             return self.desk.refuse(front, GameFault::G1, outbox);
@@ -72,7 +72,7 @@ impl Games {
             × (self.new.is_numbered ≡ self.old.is_numbered) }
         ensures reply { (reply : Reply)
             × IsReplyTo self.old.given self.old.desk (Begins (said_in words.now)) words.now reply
-            × Puts front reply result outbox.old.bytes.items outbox.new.bytes.items self.new.desk }
+            × PutsReply front reply result outbox.old.bytes.items outbox.new.bytes.items self.new.desk }
     {
         self.desk.put_end(outbox);
         match read_game(self.given, words) {
