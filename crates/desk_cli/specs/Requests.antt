@@ -170,8 +170,8 @@ AsksForGames found other = ⊥
 
 -- ---- what a player needs
 
-abbrev pub place_of : List ℕ → Option ℕ
-place_of word =
+abbrev pub place_said : List ℕ → Option ℕ
+place_said word =
     if bytes_eq word (codes "1") then Some 1
     else if bytes_eq word (codes "2") then Some 2
     else if bytes_eq word (codes "3") then Some 3
@@ -193,22 +193,22 @@ abbrev pub asked_of : Found → Option Asked
 asked_of found = option_and_then asked_in (words_under found (codes "WORD"))
 
 -- A player, a place from 1 to 4 and a file, with the bets of others and the rules for hands.
-pub record IsNeed (found : Found) (need : NeedRequest) : Type 0 where
+pub record IsNeedAsked (found : Found) (need : NeedRequest) : Type 0 where
   pub asked : Asked
   pub words : asked_of found ≡ Some asked
   pub name : need.name.now ≡ asked.name
-  pub place : place_of asked.place ≡ Some need.place
+  pub place : place_said asked.place ≡ Some need.place
   pub file : need.file.now ≡ asked.file
   pub riichi : option_map (λ names. names.now) need.riichi ≡ first_value found (codes "riichi")
   pub rules : NamesRules (rules_option found) need.rules
 
 -- a word stands where a place should, and says none
 abbrev pub IsNoPlace : Found → List ℕ → Type 0
-IsNoPlace found word = (option_map (λ asked. asked.place) (asked_of found) ≡ Some word) × (place_of word ≡ None)
+IsNoPlace found word = (option_map (λ asked. asked.place) (asked_of found) ≡ Some word) × (place_said word ≡ None)
 
 abbrev pub AsksForNeed : Found → Option Request → Type 0
 AsksForNeed found None = asked_of found ≡ None
-AsksForNeed found (Some (requests.Need need)) = IsNeed found need
+AsksForNeed found (Some (requests.Need need)) = IsNeedAsked found need
 AsksForNeed found (Some (requests.UnknownPlace word)) = IsNoPlace found word.now
 AsksForNeed found (Some (requests.UnknownRules word)) = IsUnknown found word.now
 AsksForNeed found (Some other) = ⊥
@@ -232,8 +232,8 @@ IsAsked record_command found asked = AsksForRecord record_command found asked
 
 -- ---- the whole command line
 
-abbrev pub command_of : ArgMatches → Option CommandName
-command_of matches = option_and_then command_named (subcommand_name_of matches)
+abbrev pub chosen_command : ArgMatches → Option CommandName
+chosen_command matches = option_and_then command_named (subcommand_name_of matches)
 
 -- clap found this behind the command
 abbrev pub AreWords : ArgMatches → ArgMatches → Type 0

@@ -123,9 +123,9 @@ pub enum Lines<'m, 'a> {
 
 /// What the words ask for; none where they name no command of ours, or lack a word that it needs.
 pub fn request_of<'m, 'a>(matches: &'m ArgMatches<'a>) -> Option<Request<'m, 'a>>
-    ensures asked { (command : CommandName) → spec.command_of matches.now ≡ Some command
+    ensures asked { (command : CommandName) → spec.chosen_command matches.now ≡ Some command
         → spec.Asks matches.now command result }
-    ensures none { spec.command_of matches.now ≡ None → result ≡ None }
+    ensures none { spec.chosen_command matches.now ≡ None → result ≡ None }
 {
     let (name, words) = matches.subcommand()?;
     command_request(CommandName::named(name)?, words)
@@ -243,7 +243,7 @@ fn need_request<'m, 'a>(words: &'m ArgMatches<'a>) -> Option<Request<'m, 'a>>
     ensures { spec.AsksForNeed (found_of words.now) result }
 {
     let asked = asked_in(words.get_strs("WORD")?)?;
-    Some(match place_of(asked.place) {
+    Some(match place_said(asked.place) {
         None => Request::UnknownPlace(asked.place),
         Some(place) => need_of(words, &asked, place),
     })
@@ -287,7 +287,7 @@ fn need_of<'m, 'a>(words: &'m ArgMatches<'a>, asked: &Asked<'a>, place: u8) -> R
       place = asked.now.place.now;
       file = asked.now.file.now;
     }) }
-    requires place { spec.place_of asked.now.place.now ≡ Some place }
+    requires place { spec.place_said asked.now.place.now ≡ Some place }
     ensures { spec.AsksForNeed (found_of words.now) (Some result) }
 {
     match rules_in(words) {
@@ -303,8 +303,8 @@ fn need_of<'m, 'a>(words: &'m ArgMatches<'a>, asked: &Asked<'a>, place: u8) -> R
 }
 
 /// The place that a word says.
-fn place_of(word: &str) -> Option<u8>
-    ensures { result ≡ spec.place_of word.now }
+fn place_said(word: &str) -> Option<u8>
+    ensures { result ≡ spec.place_said word.now }
 {
     if word == "1" {
         Some(1)

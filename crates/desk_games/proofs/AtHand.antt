@@ -5,7 +5,7 @@ use Rattle.riichi_hand.specs.Rules.{Rules}
 use Rattle.riichi_game_text.specs.GameLines.{GameSaid, game_of, hand_word}
 use Rattle.riichi_game_text.specs.TableWords.{IsHandRules}
 use Rattle.desk_games.specs.Played.{GameSoFar}
-use Rattle.desk_games.specs.Desks.{begun, begun_desk}
+use Rattle.desk_games.specs.Desks.{new_game, begun_desk}
 use Rattle.desk_games.specs.Replies.{LineOfGame, Odd, Blank, Begins, Undo, Entry, seen_in, Reply, begin_reply, IsReplyTo, AreReplies}
 use Rattle.desk_games.specs.Laws.{is_begin, BeginNone, UndoNone, outcomes_in, refuses, IsAtHand, GameComesFromItsLines}
 use Rattle.desk_games.specs.declared.desk.GameDesk.{GameDesk}
@@ -72,8 +72,8 @@ begun_at : (given : Rules) (line : List ℕ) (lines : List (List ℕ)) (words : 
 begun_at given line lines words hand None others game none keep begins named says are =
     let same : desk.Game game ≡ desk.Refused = stays given desk.Refused lines others (desk.Game game) refl none are in absurd (cc)
 begun_at given line lines words hand (Some said) others game none keep begins named says are =
-    let reached = goes_on_by_outcomes given (begun said) lines others (desk.Game game) none keep are in
-    let is : game ≡ gone_on (begun said) reached.0 (outcomes_in others) (list_any refuses others) = ap (game_in game) reached.1 in
+    let reached = goes_on_by_outcomes given (new_game said) lines others (desk.Game game) none keep are in
+    let is : game ≡ gone_on (new_game said) reached.0 (outcomes_in others) (list_any refuses others) = ap (game_in game) reached.1 in
     record {
       front = [];
       line = line;

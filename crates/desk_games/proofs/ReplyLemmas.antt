@@ -12,7 +12,7 @@ use Rattle.desk_lines.specs.declared.line_kind.LineKind.{LineKind}
 use Rattle.desk_lines.specs.declared.report.DeskReport.{DeskReport}
 use Rattle.desk_lines.specs.Telling.{IsToldAs, answers_in, report_of, report_with}
 use Rattle.desk_lines.proofs.TellingLemmas.{report_of_more}
-use Rattle.desk_games.specs.Replies.{LineOfGame, Odd, Blank, Begins, Undo, Entry, says_undo, line_by, seen_in, Reply, blank_reply, refusal, undo_reply, other_reply, IsReply, IsReplyTo, AreReplies}
+use Rattle.desk_games.specs.Replies.{LineOfGame, Odd, Blank, Begins, Undo, Entry, says_undo, line_of_words, seen_in, Reply, blank_reply, refusal, undo_reply, other_reply, IsReply, IsReplyTo, AreReplies}
 use Rattle.desk_games.specs.Texts.{answer_text, number_if, answers_from, kind_in, Puts, AnswersLines}
 use Rattle.desk_games.specs.declared.desk.GameDesk.{GameDesk}
 use Rattle.desk_games.specs.declared.games.Games.{Games}
@@ -20,15 +20,15 @@ use Rattle.desk_games.specs.declared.games.Games.{Games}
 -- ---- what a line is
 
 seen_odd : (line : List ℕ) → is_odd line ≡ true → seen_in line ≡ Odd
-seen_odd line odd = ap (λ (b : Bool). if b then Odd else line_by (said_in line)) odd
+seen_odd line odd = ap (λ (b : Bool). if b then Odd else line_of_words (said_in line)) odd
 
-seen_by : (line : List ℕ) (words : List (List ℕ)) → is_odd line ≡ false → said_in line ≡ words → seen_in line ≡ line_by words
-seen_by line words even said = ap (λ (b : Bool). if b then Odd else line_by (said_in line)) even ∙ ap line_by said
+seen_by : (line : List ℕ) (words : List (List ℕ)) → is_odd line ≡ false → said_in line ≡ words → seen_in line ≡ line_of_words words
+seen_by line words even said = ap (λ (b : Bool). if b then Odd else line_of_words (said_in line)) even ∙ ap line_of_words said
 
-begins_if : (first : List ℕ) (words : List (List ℕ)) (is : Bool) → bytes_eq first (codes "game") ≡ is → line_by (first ∷ words) ≡ (if is then Begins words else if says_undo first words then Undo else Entry)
+begins_if : (first : List ℕ) (words : List (List ℕ)) (is : Bool) → bytes_eq first (codes "game") ≡ is → line_of_words (first ∷ words) ≡ (if is then Begins words else if says_undo first words then Undo else Entry)
 begins_if first words is same = ap (λ (b : Bool). if b then Begins words else if says_undo first words then Undo else Entry) same
 
-undoes_if : (first : List ℕ) (words : List (List ℕ)) (is : Bool) → bytes_eq first (codes "game") ≡ false → says_undo first words ≡ is → line_by (first ∷ words) ≡ (if is then Undo else Entry)
+undoes_if : (first : List ℕ) (words : List (List ℕ)) (is : Bool) → bytes_eq first (codes "game") ≡ false → says_undo first words ≡ is → line_of_words (first ∷ words) ≡ (if is then Undo else Entry)
 undoes_if first words is other same = begins_if first words false other ∙ ap (λ (b : Bool). if b then Undo else Entry) same
 
 reply_by : (given : Rules) (now : GameDesk) (line : List ℕ) (seen : LineOfGame) (reply : Reply) → seen_in line ≡ seen → IsReplyTo given now seen line reply → IsReply given now line reply

@@ -10,7 +10,7 @@ use Rattle.desk_lines.specs.Streams.{GivesAll, WritesAll, StopsWriting}
 use Rattle.desk_lines.specs.Telling.{text_of, with_line_feed}
 use Rattle.desk_lines.proofs.StreamLemmas.{WritesAll-trans, StopsWriting-after}
 use Rattle.desk_lines.proofs.TellingLemmas.{text_of_more}
-use Rattle.desk_games.specs.Desks.{end_of}
+use Rattle.desk_games.specs.Desks.{told_at_end}
 use Rattle.desk_games.specs.Streams.{games_answers, TellsGames, TellsFront}
 use Rattle.desk_games.specs.Texts.{AnswersLines}
 use Rattle.desk_games.specs.declared.desk.GameDesk.{GameDesk}
@@ -19,14 +19,14 @@ use Rattle.desk_games.specs.declared.games.Games.{Games}
 
 module _ {W : Type 0} (sink : OfSink W) (start old new : W) (answers : List (List ℕ)) (last : GameDesk) where
   -- the answers were written, and then the end of the last game
-  pub written_with_end : WritesAll sink start old (text_of answers) → WritesAll sink old new (with_line_feed (end_of last)) → WritesAll sink start new (games_answers answers last)
+  pub written_with_end : WritesAll sink start old (text_of answers) → WritesAll sink old new (with_line_feed (told_at_end last)) → WritesAll sink start new (games_answers answers last)
   written_with_end first then =
-      subst (λ (text : List ℕ). WritesAll sink start new text) (sym (text_of_more answers (end_of last))) (WritesAll-trans sink start old new (text_of answers) (with_line_feed (end_of last)) first then)
+      subst (λ (text : List ℕ). WritesAll sink start new text) (sym (text_of_more answers (told_at_end last))) (WritesAll-trans sink start old new (text_of answers) (with_line_feed (told_at_end last)) first then)
 
   -- the answers were written, and then the writing of the end stopped
-  pub stops_at_end : WritesAll sink start old (text_of answers) → StopsWriting sink old new (with_line_feed (end_of last)) → StopsWriting sink start new (games_answers answers last)
+  pub stops_at_end : WritesAll sink start old (text_of answers) → StopsWriting sink old new (with_line_feed (told_at_end last)) → StopsWriting sink start new (games_answers answers last)
   stops_at_end first then =
-      subst (λ (text : List ℕ). StopsWriting sink start new text) (sym (text_of_more answers (end_of last))) (StopsWriting-after sink start old new (text_of answers) (with_line_feed (end_of last)) first then)
+      subst (λ (text : List ℕ). StopsWriting sink start new text) (sym (text_of_more answers (told_at_end last))) (StopsWriting-after sink start old new (text_of answers) (with_line_feed (told_at_end last)) first then)
 
 -- what a new teller told
 pub told_from_none : (first : Games) (is_numbered : Bool) (given : Rules) (lines answers : List (List ℕ)) (report : DeskReport) (last : GameDesk) → first.given ≡ given → first.is_numbered ≡ is_numbered → first.desk ≡ NoGame
@@ -38,7 +38,7 @@ told_from_none first is_numbered given lines answers report last given_is number
 
 module _ {R W : Type 0} (source : OfSource R) (sink : OfSink W) (is_numbered : Bool) (given : Rules) (reader read : R) (writer then written : W) (text : List ℕ) (answers : List (List ℕ)) (report : DeskReport) (last : GameDesk) where
   pub tells_games : GivesAll source reader read text → AnswersLines is_numbered given NoGame (lines text) answers report last → WritesAll sink writer then (text_of answers)
-      → WritesAll sink then written (with_line_feed (end_of last)) → TellsGames source sink is_numbered given reader read writer written report last
+      → WritesAll sink then written (with_line_feed (told_at_end last)) → TellsGames source sink is_numbered given reader read writer written report last
   tells_games all answered first behind = record {
     text = text;
     answers = answers;
@@ -48,7 +48,7 @@ module _ {R W : Type 0} (source : OfSource R) (sink : OfSink W) (is_numbered : B
   }
 
   pub tells_to_end : GivesAll source reader read text → AnswersLines is_numbered given NoGame (lines text) answers report last → WritesAll sink writer then (text_of answers)
-      → StopsWriting sink then written (with_line_feed (end_of last)) → TellsFront source sink is_numbered given reader read writer written
+      → StopsWriting sink then written (with_line_feed (told_at_end last)) → TellsFront source sink is_numbered given reader read writer written
   tells_to_end all answered first behind = record {
     text = text;
     whole = lines text;

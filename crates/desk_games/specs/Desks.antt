@@ -12,27 +12,27 @@ use Rattle.desk_games.specs.declared.desk.GameDesk.TheVariants as desk
 -- ---- where a game begins
 
 -- before the first deal of a game with these names and rules
-abbrev pub begun : GameSaid → GameSoFar
-begun said = record { names = said.names; rules = said.rules; progress = first_progress said.rules; former = None; is_held = false }
+abbrev pub new_game : GameSaid → GameSoFar
+new_game said = record { names = said.names; rules = said.rules; progress = first_progress said.rules; former = None; is_held = false }
 
 -- behind a line `game`; where it is refused the game has no state
 abbrev pub begun_desk : Option GameSaid → GameDesk
 begun_desk None = desk.Refused
-begun_desk (Some said) = desk.Game (begun said)
+begun_desk (Some said) = desk.Game (new_game said)
 
 -- ---- where a line of it is refused
 
 -- its game is held; where no game has begun, or one without a state, there is none to hold
-abbrev pub held : GameDesk → GameDesk
-held desk.NoGame = desk.NoGame
-held desk.Refused = desk.Refused
-held (desk.Game game) = desk.Game (hold game)
+abbrev pub held_desk : GameDesk → GameDesk
+held_desk desk.NoGame = desk.NoGame
+held_desk desk.Refused = desk.Refused
+held_desk (desk.Game game) = desk.Game (hold game)
 
 -- a line of the game was refused, the line `game` among them
-abbrev pub is_held : GameDesk → Bool
-is_held desk.NoGame = false
-is_held desk.Refused = true
-is_held (desk.Game game) = game.is_held
+abbrev pub is_held_desk : GameDesk → Bool
+is_held_desk desk.NoGame = false
+is_held_desk desk.Refused = true
+is_held_desk (desk.Game game) = game.is_held
 
 -- the game at hand, where no line of it was refused
 abbrev pub open_game : GameDesk → Option GameSoFar
@@ -51,7 +51,7 @@ end_text game =
     else stands_text progress.state
 
 -- what is told behind the last line of the game at hand: nothing where there is none, or none with a state
-abbrev pub end_of : GameDesk → Option (List ℕ)
-end_of desk.NoGame = None
-end_of desk.Refused = None
-end_of (desk.Game game) = Some (end_text game)
+abbrev pub told_at_end : GameDesk → Option (List ℕ)
+told_at_end desk.NoGame = None
+told_at_end desk.Refused = None
+told_at_end (desk.Game game) = Some (end_text game)

@@ -10,7 +10,7 @@ use Rattle.riichi_game_text.specs.TableWords.{IsHandRules}
 use Rattle.desk_lines.specs.declared.report.DeskReport.{DeskReport}
 use Rattle.desk_lines.specs.Telling.{is_refused}
 use Rattle.desk_games.specs.Played.{GameSoFar}
-use Rattle.desk_games.specs.Desks.{begun, held}
+use Rattle.desk_games.specs.Desks.{new_game, held_desk}
 use Rattle.desk_games.specs.Replies.{LineOfGame, Odd, Blank, Begins, Undo, Entry, seen_in, Reply, accept, undo_reply, AreReplies}
 use Rattle.desk_games.specs.Texts.{AnswersLines}
 use Rattle.desk_games.specs.declared.desk.GameDesk.{GameDesk}
@@ -83,7 +83,7 @@ UndoTakesTheLastBack = (game : GameSoFar) (outcome : Outcome) → game.is_held �
 
 -- `undo` behind a refused line, and others that were refused for it, leaves the game as it was before the first of them
 abbrev pub UndoReleases : Type 0
-UndoReleases = (game : GameSoFar) → game.is_held ≡ false → (undo_reply (held (desk.Game game))).desk ≡ desk.Game game
+UndoReleases = (game : GameSoFar) → game.is_held ≡ false → (undo_reply (held_desk (desk.Game game))).desk ≡ desk.Game game
 
 -- ---- where a game at hand comes from
 
@@ -102,7 +102,7 @@ pub record IsAtHand (given : Rules) (lines : List (List ℕ)) (game : GameSoFar)
   pub said : GameSaid
   pub says : game_of hand words ≡ Some said
   pub replies : List Reply
-  pub are : AreReplies given (desk.Game (begun said)) behind replies (desk.Game game)
+  pub are : AreReplies given (desk.Game (new_game said)) behind replies (desk.Game game)
   pub names : game.names ≡ said.names
   pub rules : game.rules ≡ said.rules
   pub progress : game.progress ≡ after_all (first_progress said.rules) said.rules (outcomes_in replies)

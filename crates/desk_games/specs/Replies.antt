@@ -19,7 +19,7 @@ use Rattle.riichi_game_text.specs.declared.fault.GameFault.TheVariants.{G1, G2, 
 use Rattle.desk_lines.specs.declared.line_kind.LineKind.{LineKind}
 use Rattle.desk_lines.specs.declared.line_kind.LineKind.TheVariants.{NoRecord, Answered, Refused}
 use Rattle.desk_games.specs.Played.{GameSoFar, release, come_back}
-use Rattle.desk_games.specs.Desks.{begun_desk, held, is_held, end_of}
+use Rattle.desk_games.specs.Desks.{begun_desk, held_desk, is_held_desk, told_at_end}
 use Rattle.desk_games.specs.declared.desk.GameDesk.{GameDesk}
 use Rattle.desk_games.specs.declared.desk.GameDesk.TheVariants as desk
 
@@ -37,14 +37,14 @@ abbrev pub says_undo : List ℕ → List (List ℕ) → Bool
 says_undo first [] = bytes_eq first (codes "undo")
 says_undo first (word ∷ words) = false
 
-abbrev pub line_by : List (List ℕ) → LineOfGame
-line_by [] = Blank
-line_by (first ∷ words) = if bytes_eq first (codes "game") then Begins words else if says_undo first words then Undo else Entry
+abbrev pub line_of_words : List (List ℕ) → LineOfGame
+line_of_words [] = Blank
+line_of_words (first ∷ words) = if bytes_eq first (codes "game") then Begins words else if says_undo first words then Undo else Entry
 
 -- A line may be odd. Else it has no words; or its first word is `game` and these words stand behind it; or it is the word `undo`; or it
 -- says something else.
 abbrev pub seen_in : List ℕ → LineOfGame
-seen_in line = if is_odd line then Odd else line_by (said_in line)
+seen_in line = if is_odd line then Odd else line_of_words (said_in line)
 
 -- ---- what a line comes to
 
@@ -65,23 +65,23 @@ blank_reply now = record { ended = None; answer = None; outcome = None; kind = N
 abbrev pub refusal : GameDesk → GameFault → Reply
 refusal now fault = record {
   ended = None;
-  answer = Some (refused_text (if is_held now then G14 else fault));
+  answer = Some (refused_text (if is_held_desk now then G14 else fault));
   outcome = None;
   kind = Refused;
-  desk = held now;
+  desk = held_desk now;
 }
 
 -- a line `game` ends the game before it
 abbrev pub begin_reply : GameDesk → Option GameSaid → Reply
 begin_reply now None = record {
-  ended = end_of now;
+  ended = told_at_end now;
   answer = Some (refused_text G3);
   outcome = None;
   kind = Refused;
   desk = begun_desk None;
 }
 begin_reply now (Some said) = record {
-  ended = end_of now;
+  ended = told_at_end now;
   answer = Some (begun_text said.names said.rules.start);
   outcome = None;
   kind = Answered;

@@ -7,14 +7,14 @@ use Rattle.desk_lines.specs.declared.report.DeskReport.{DeskReport}
 use Rattle.desk_lines.specs.Lines.{ended_lines, lines}
 use Rattle.desk_lines.specs.Streams.{Gives, GivesAll, WritesAll, StopsWriting, AreWhole}
 use Rattle.desk_lines.specs.Telling.{answers_in, text_of}
-use Rattle.desk_games.specs.Desks.{end_of}
+use Rattle.desk_games.specs.Desks.{told_at_end}
 use Rattle.desk_games.specs.Texts.{AnswersLines}
 use Rattle.desk_games.specs.declared.desk.GameDesk.{GameDesk}
 use Rattle.desk_games.specs.declared.desk.GameDesk.TheVariants.{NoGame}
 
 -- what is written of the answers to all lines of a text, and of the end of its last game
 abbrev pub games_answers : List (List ℕ) → GameDesk → List ℕ
-games_answers answers last = text_of (answers ++ answers_in (end_of last))
+games_answers answers last = text_of (answers ++ answers_in (told_at_end last))
 
 -- The reader gave a text to its end, and the answers to its lines were written, and the end of its last game.
 pub record TellsGames {R W : Type 0} (source : OfSource R) (sink : OfSink W) (is_numbered : Bool) (given : Rules) (reader read : R) (writer written : W) (report : DeskReport) (last : GameDesk) : Type 0 where

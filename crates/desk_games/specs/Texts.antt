@@ -25,13 +25,13 @@ abbrev pub behind_end : List ℕ → Option (List ℕ) → Option (List ℕ)
 behind_end ended None = None
 behind_end ended (Some answer) = Some (ended ++ answer)
 
-abbrev pub answer_text : Option ℕ → Reply → Option (List ℕ)
-answer_text number reply = behind_end (with_line_feed reply.ended) (behind_front (front_text number) reply.answer)
+abbrev pub text_of_reply : Option ℕ → Reply → Option (List ℕ)
+text_of_reply number reply = behind_end (with_line_feed reply.ended) (behind_front (front_text number) reply.answer)
 
 -- A reply was counted so, its answer put behind the text that stood there, and this is the text of games behind it.
-pub record Puts (number : Option ℕ) (reply : Reply) (kind : LineKind) (before after : List ℕ) (now : GameDesk) : Type 0 where
+pub record PutsReply (number : Option ℕ) (reply : Reply) (kind : LineKind) (before after : List ℕ) (now : GameDesk) : Type 0 where
   pub kind_is : kind ≡ reply.kind
-  pub put : after ≡ before ++ with_line_feed (answer_text number reply)
+  pub put : after ≡ before ++ with_line_feed (text_of_reply number reply)
   pub desk_is : now ≡ reply.desk
 
 -- ---- the answers to lines
@@ -45,7 +45,7 @@ number_if true number = Some number
 abbrev pub answers_from : Bool → ℕ → List Reply → List (List ℕ)
 answers_from is_numbered number [] = []
 answers_from is_numbered number (reply ∷ replies) =
-    cons_option (answer_text (number_if is_numbered number) reply) (answers_from is_numbered (number + 1) replies)
+    cons_option (text_of_reply (number_if is_numbered number) reply) (answers_from is_numbered (number + 1) replies)
 
 abbrev pub kind_in : Reply → LineKind
 kind_in reply = reply.kind

@@ -36,7 +36,7 @@ impl GameDesk {
 
     /// Whether a line of the game at hand was refused, the line `game` among them.
     fn is_held(&self) -> bool
-        ensures { result ≡ spec.is_held self.now }
+        ensures { result ≡ spec.is_held_desk self.now }
     {
         match self {
             GameDesk::NoGame => false,
@@ -47,7 +47,7 @@ impl GameDesk {
 
     /// From now on each line of the game at hand is refused.
     fn hold(&mut self)
-        ensures { self.new ≡ spec.held self.old }
+        ensures { self.new ≡ spec.held_desk self.old }
     {
         if let GameDesk::Game(game) = self {
             game.hold();
@@ -58,7 +58,7 @@ impl GameDesk {
     pub(crate) fn put_end(&self, outbox: &mut Outbox)
         requires room { HasRoomForLine outbox.old }
         ensures put { outbox.new.bytes.items
-            ≡ outbox.old.bytes.items ++ with_line_feed (spec.end_of self.now) }
+            ≡ outbox.old.bytes.items ++ with_line_feed (spec.told_at_end self.now) }
         ensures room { HasRoomForText outbox.new }
     {
         if let GameDesk::Game(game) = self {

@@ -7,7 +7,7 @@ ghost use Rattle.riichi_game_text.specs.Names.{names_in};
 ghost use Rattle.desk_lines.specs.Outbox.{HasRoomForText};
 ghost use Rattle.desk_games.specs.Played.{hold};
 ghost use Rattle.desk_games.specs.declared.desk.GameDesk.TheVariants.{Game};
-ghost use Rattle.desk_games.specs.Desks.{begun, end_text};
+ghost use Rattle.desk_games.specs.Desks.{new_game, end_text};
 ghost use Rattle.desk_games.specs.Replies.{accept, game_reply, game_undo};
 ghost use Rattle.desk_games.specs.Texts.{Puts};
 
@@ -49,7 +49,7 @@ impl Model for GameAtHand {
 impl GameAtHand {
     /// The game that a line begins, before its first deal.
     pub fn new(line: &GameLine) -> GameAtHand
-        ensures { result ≡ begun (said_by line.now) }
+        ensures { result ≡ new_game (said_by line.now) }
     {
         GameAtHand {
             names: line.names,
@@ -124,7 +124,7 @@ impl GameAtHand {
         }
         match self.former {
             None => {
-                self.hold();
+                self.is_held = true;
                 put_refused(front, GameFault::G4, outbox);
                 LineKind::Refused
             }

@@ -2,7 +2,7 @@
 ghost use Rattle.std.specs.Prelude.{◌≡◌, false, IfOk, IsErrOf};
 ghost use Rattle.desk_lines.specs.Streams.{Writes, FailsOrGoesOn, IsReadWithin};
 ghost use Rattle.desk_lines.specs.Telling.{with_line_feed};
-ghost use Rattle.desk_games.specs.Desks.{end_of};
+ghost use Rattle.desk_games.specs.Desks.{told_at_end};
 ghost use Rattle.desk_games.specs.Streams.{TellsGames, TellsEnded, TellsFront};
 
 use crate::desk::GameDesk;
@@ -75,7 +75,7 @@ pub fn games_text_with<R: Source, W: Sink>(
 /// Writes what is told behind the last line of a text of games.
 fn write_end<W: Sink>(desk: &GameDesk, writer: &mut W) -> Result<(), DeskFault>
     ensures { Writes ⟦<W as Sink>⟧
-        writer.old writer.new result (with_line_feed (end_of desk.now)) }
+        writer.old writer.new result (with_line_feed (told_at_end desk.now)) }
 {
     match desk {
         GameDesk::Game(game) => {

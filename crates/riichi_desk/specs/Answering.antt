@@ -18,12 +18,12 @@ use Rattle.desk_lines.specs.Streams.{WritesAll}
 use Rattle.desk_lines.specs.Telling.{text_by, text_of}
 
 -- the answers of a form
-abbrev pub kind_of : Form → AnswerKind
-kind_of forms.Words = IsBy answer_of
-kind_of forms.Json = IsBy json_of
-kind_of forms.Reasons = IsExplained shown.BestReading
-kind_of forms.AllReasons = IsExplained shown.EveryReading
-kind_of forms.JsonReasons = IsReasoned
+abbrev pub answer_kind_of : Form → AnswerKind
+answer_kind_of forms.Words = IsBy answer_of
+answer_kind_of forms.Json = IsBy json_of
+answer_kind_of forms.Reasons = IsExplained shown.BestReading
+answer_kind_of forms.AllReasons = IsExplained shown.EveryReading
+answer_kind_of forms.JsonReasons = IsReasoned
 
 -- the same behind the numbers of their lines: of an object the members, since the number is one too
 abbrev pub numbered_kind_of : Form → AnswerKind
@@ -53,10 +53,10 @@ pub record WritesNumbered {W : Type 0} (Answers : AnswerKind) (front : ℕ → L
   pub written : WritesAll sink old new (text_by (λ answer. front answer.0 ++ answer.1) told)
 
 -- these lines were answered in this manner
-abbrev pub IsAnswered : {W : Type 0} → OfSink W → W → W → Manner → List (List ℕ) → Type 0
-IsAnswered sink old new manner lines =
+abbrev pub WritesInManner : {W : Type 0} → OfSink W → W → W → Manner → List (List ℕ) → Type 0
+WritesInManner sink old new manner lines =
     MatchBool manner.is_numbered (WritesNumbered (numbered_kind_of manner.form) (front_of manner.form) sink old new manner.rules lines)
-    (WritesAnswers (kind_of manner.form) sink old new manner.rules lines)
+    (WritesAnswers (answer_kind_of manner.form) sink old new manner.rules lines)
 
 -- a line of the text is refused
 abbrev pub has_refusal : Rules → List ℕ → Bool
@@ -65,5 +65,5 @@ has_refusal rules text = nat_lt 0 (report_on rules (lines text)).refused
 -- Texts were answered one after another in this manner, and it was noted whether a line of any of them is refused.
 pub data AnswersTexts {W : Type 0} (sink : OfSink W) (manner : Manner) (start : W) : List (List ℕ) → W → Bool → Type 0 where
   none : AnswersTexts sink manner start [] start false
-  one_more : (texts : List (List ℕ)) (text : List ℕ) (old new : W) (is_refused : Bool) → AnswersTexts sink manner start texts old is_refused → IsAnswered sink old new manner (lines text)
+  one_more : (texts : List (List ℕ)) (text : List ℕ) (old new : W) (is_refused : Bool) → AnswersTexts sink manner start texts old is_refused → WritesInManner sink old new manner (lines text)
       → AnswersTexts sink manner start (texts ++ text ∷ []) new (is_refused || has_refusal manner.rules text)

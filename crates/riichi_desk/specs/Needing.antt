@@ -23,12 +23,12 @@ question_with game place (Some player) (Some bets) = Ok (record {
   place = place;
 })
 
-abbrev pub question_in : Option GameSoFar → ℕ → List ℕ → Option (List ℕ) → Result Question NoNeed
-question_in None place name riichi = Err NoGame
-question_in (Some game) place name riichi =
+abbrev pub question_asked : Option GameSoFar → ℕ → List ℕ → Option (List ℕ) → Result Question NoNeed
+question_asked None place name riichi = Err NoGame
+question_asked (Some game) place name riichi =
     if game.progress.is_over then Err Over
     else question_with game place (player_named game.names name) (players_if_said game.names riichi)
 
 -- the question of a name, a place, and the names of others who bet, in the last game of a text
 abbrev pub question_of : GameDesk → ℕ → List ℕ → Option (List ℕ) → Result Question NoNeed
-question_of desk place name riichi = question_in (open_game desk) place name riichi
+question_of desk place name riichi = question_asked (open_game desk) place name riichi

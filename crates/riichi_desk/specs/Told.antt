@@ -9,13 +9,13 @@ use Rattle.desk_cli.specs.declared.request.Lines.TheVariants as sources
 use Rattle.riichi_desk.specs.Answering.{has_refusal}
 
 -- words, a space before each
-abbrev pub spaced : List (List ℕ) → List ℕ
-spaced words = flat_map (λ word. 32 ∷ word) words
+abbrev pub spaced_words : List (List ℕ) → List ℕ
+spaced_words words = flat_map (λ word. 32 ∷ word) words
 
 -- words that are one line
 abbrev pub one_line : List (List ℕ) → List ℕ
 one_line [] = []
-one_line (first ∷ words) = first ++ spaced words
+one_line (first ∷ words) = first ++ spaced_words words
 
 -- words that are a line each
 abbrev pub each_line : List (List ℕ) → List ℕ
@@ -28,4 +28,4 @@ TellsRefused rules (sources.Files files) is_refused = Unit {0}
 TellsRefused rules (sources.Each words) is_refused = is_refused ≡ has_refusal rules (each_line (texts words.now))
 TellsRefused rules (sources.One words) is_refused = is_refused ≡ has_refusal rules (one_line (texts words.now))
 TellsRefused rules (sources.Record job hand None) is_refused = is_refused ≡ has_refusal rules (command_word job ++ 32 ∷ hand.now)
-TellsRefused rules (sources.Record job hand (Some words)) is_refused = is_refused ≡ has_refusal rules ((command_word job ++ 32 ∷ hand.now) ++ spaced (texts words.now))
+TellsRefused rules (sources.Record job hand (Some words)) is_refused = is_refused ≡ has_refusal rules ((command_word job ++ 32 ∷ hand.now) ++ spaced_words (texts words.now))

@@ -45,7 +45,7 @@ impl<W: Sink> Answering<W> {
         rt: &R,
         text: &String,
     ) -> Result<bool, Failure<'a>>
-        ensures answered { OnOk result (spec.IsAnswered ⟦<W as Sink>⟧ self.old.writer
+        ensures answered { OnOk result (spec.WritesInManner ⟦<W as Sink>⟧ self.old.writer
             self.new.writer self.old.manner (lines (string_bytes text.now))) }
         ensures refused { IfOk result (λ is_refused. is_refused
             ≡ spec.has_refusal self.old.manner.rules (string_bytes text.now)) }
@@ -62,7 +62,7 @@ impl<W: Sink> Answering<W> {
     ) -> Result<TextReport, Failure<'a>>
         ensures answered { IfOk result (λ report. (text : List ℕ)
             × GivesAll ⟦<S as Source>⟧ reader.old reader.new text
-            × spec.IsAnswered ⟦<W as Sink>⟧ self.old.writer self.new.writer
+            × spec.WritesInManner ⟦<W as Sink>⟧ self.old.writer self.new.writer
             self.old.manner (lines text)
             × (report ≡ text_report self.old.manner.rules (lines text))) }
         ensures failed { IfErr result (λ failure. (fault : DeskFault)

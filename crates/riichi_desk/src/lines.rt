@@ -56,7 +56,7 @@ impl<W: Sink> Answering<W> {
         progress: &Progress<'_, R>,
     ) -> Result<bool, Failure<'a>>
         ensures answered { IfOk result (λ is_refused. (text : List ℕ)
-            × spec.IsAnswered ⟦<W as Sink>⟧ self.old.writer self.new.writer
+            × spec.WritesInManner ⟦<W as Sink>⟧ self.old.writer self.new.writer
             self.old.manner (lines text)
             × (is_refused ≡ spec.has_refusal self.old.manner.rules text)) }
         ensures failed { IfErr result (λ failure. (fault : DeskFault)
@@ -77,7 +77,7 @@ impl<W: Sink> Answering<W> {
         stream: T,
     ) -> Result<bool, Failure<'a>>
         ensures answered { IfOk result (λ is_refused. (text : List ℕ)
-            × spec.IsAnswered ⟦<W as Sink>⟧ self.old.writer self.new.writer
+            × spec.WritesInManner ⟦<W as Sink>⟧ self.old.writer self.new.writer
             self.old.manner (lines text)
             × (is_refused ≡ spec.has_refusal self.old.manner.rules text)) }
         ensures failed { IfErr result (λ failure. (fault : DeskFault)
@@ -155,7 +155,7 @@ fn record_line(alloc: Global, job: CommandName, hand: &str) -> Result<String, Al
 /// Words behind a text, a space before each.
 fn push_spaced(text: &mut String, words: &[&str]) -> Result<(), AllocError>
     ensures { IfOk result (λ _. string_bytes text.new
-        ≡ string_bytes text.old ++ told.spaced (texts words.now)) }
+        ≡ string_bytes text.old ++ told.spaced_words (texts words.now)) }
 {
     for word in words {
         text.push(' ')?;

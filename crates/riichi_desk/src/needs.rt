@@ -114,12 +114,12 @@ fn question_of(desk: &GameDesk, need: &NeedRequest<'_>) -> Result<Question, NoNe
 {
     match desk.game() {
         None => Err(NoNeed::NoGame),
-        Some(game) => question_in(game, need),
+        Some(game) => question_asked(game, need),
     }
 }
 
-fn question_in(game: &GameAtHand, need: &NeedRequest<'_>) -> Result<Question, NoNeed>
-    ensures { result ≡ spec.question_in (Some game.now) need.now.place need.now.name.now
+fn question_asked(game: &GameAtHand, need: &NeedRequest<'_>) -> Result<Question, NoNeed>
+    ensures { result ≡ spec.question_asked (Some game.now) need.now.place need.now.name.now
         (option_map (λ names. names.now) need.now.riichi) }
 {
     let progress = game.progress();

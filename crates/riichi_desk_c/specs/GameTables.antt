@@ -38,10 +38,10 @@ abbrev pub fault_number_by : Option TableRules → ℕ
 fault_number_by None = 200
 fault_number_by (Some rules) = rules_fault_number (rules_fault rules)
 
-abbrev pub unless_refused : Option TableRules → Option TableRules
-unless_refused None = None
-unless_refused (Some rules) = if is_none (rules_fault rules) then Some rules else None
+abbrev pub if_allowed : Option TableRules → Option TableRules
+if_allowed None = None
+if_allowed (Some rules) = if is_none (rules_fault rules) then Some rules else None
 
 -- the rules that a row says, if a table may choose them
-abbrev pub table_of : TableRow → Option TableRules
-table_of row = unless_refused (rules_in row)
+abbrev pub allowed_rules_in : TableRow → Option TableRules
+allowed_rules_in row = if_allowed (rules_in row)

@@ -19,9 +19,9 @@ use Rattle.riichi_win_arrays.specs.declared.win_row.WinRow.{WinRow}
 use Rattle.riichi_game_rows.specs.FaultNumbers.{row_fault_number}
 use Rattle.riichi_game_rows.specs.FinalRows.{finals_row}
 use Rattle.riichi_game_rows.specs.HandRows.{worth_of_row, told_number}
-use Rattle.riichi_game_rows.specs.MoveRows.{AreMoved, changes_row}
+use Rattle.riichi_game_rows.specs.MoveRows.{AreMovesPut, changes_row}
 use Rattle.riichi_game_rows.specs.NeedRows.{needs_row, question_in}
-use Rattle.riichi_game_rows.specs.Playing.{IsPlayed, accepted_outcome}
+use Rattle.riichi_game_rows.specs.Playing.{IsPlayedByRows, accepted_outcome}
 use Rattle.riichi_game_rows.specs.StateRows.{progress_in, progress_row}
 use Rattle.riichi_game_rows.specs.WorthRows.{counted_base, worth_row}
 use Rattle.riichi_game_rows.specs.declared.fault_numbers.RowFault.{RowFault}
@@ -36,7 +36,7 @@ use Rattle.riichi_game_rows.specs.declared.playing.Played.{Played}
 use Rattle.riichi_game_rows.specs.declared.state_row.ProgressRow.{ProgressRow}
 use Rattle.riichi_game_rows.specs.declared.table_row.TableRow.{TableRow}
 use Rattle.riichi_game_rows.specs.declared.worth_row.WorthRow.{WorthRow}
-use Rattle.riichi_desk_c.specs.GameTables.{table_of}
+use Rattle.riichi_desk_c.specs.GameTables.{allowed_rules_in}
 use Rattle.riichi_desk_c.specs.declared.game_rows.Game.{Game}
 
 -- ---- what the rows of a game say
@@ -47,8 +47,8 @@ game_by None progress = Err 200
 game_by (Some rules) None = Err 201
 game_by (Some rules) (Some progress) = Ok (record { rules = rules; progress = progress })
 
-abbrev pub game_of : TableRow → ProgressRow → Result Game ℕ
-game_of table progress = game_by (table_of table) (progress_in progress)
+abbrev pub game_in_rows : TableRow → ProgressRow → Result Game ℕ
+game_in_rows table progress = game_by (allowed_rules_in table) (progress_in progress)
 
 -- ---- how far a game comes
 
@@ -58,9 +58,9 @@ IsFirst None told before after = (told ≡ 200) × (after ≡ before)
 IsFirst (Some rules) told before after = (told ≡ 0) × (after ≡ progress_row (first_progress rules))
 
 -- a game goes on by so many rows of outcomes; the fault is that of the next row, or 0
-pub record GoesOn (game : Game) (rows : List OutcomeRow) (fault accepted : ℕ) (after : ProgressRow) : Type 0 where
+pub record GameGoesOn (game : Game) (rows : List OutcomeRow) (fault accepted : ℕ) (after : ProgressRow) : Type 0 where
   pub played : Played
-  pub is_played : IsPlayed game.progress game.rules rows played
+  pub is_played : IsPlayedByRows game.progress game.rules rows played
   pub fault_is : fault ≡ row_fault_number played.fault
   pub accepted_is : accepted ≡ played.accepted
   pub after_is : after ≡ progress_row played.progress
@@ -68,20 +68,20 @@ pub record GoesOn (game : Game) (rows : List OutcomeRow) (fault accepted : ℕ) 
 -- where there is no game, for a fault of this number, no row is accepted
 abbrev pub GoesOnBy : Result Game ℕ → List OutcomeRow → ℕ → ℕ → ProgressRow → ProgressRow → Type 0
 GoesOnBy (Err number) rows fault accepted before after = (fault ≡ number) × (accepted ≡ 0) × (after ≡ before)
-GoesOnBy (Ok game) rows fault accepted before after = GoesOn game rows fault accepted after
+GoesOnBy (Ok game) rows fault accepted before after = GameGoesOn game rows fault accepted after
 
 -- ---- what an outcome moves
 
 -- as many moves as have a place, and what all of them change
-abbrev pub AreTold : ℕ → List Move → List MoveRow → List MoveRow → ChangesRow → Type 0
-AreTold sticks moves before after changes =
-    AreMoved (min (length moves) (length before)) moves before after × (changes ≡ changes_row sticks moves)
+abbrev pub AreMovesTold : ℕ → List Move → List MoveRow → List MoveRow → ChangesRow → Type 0
+AreMovesTold sticks moves before after changes =
+    AreMovesPut (min (length moves) (length before)) moves before after × (changes ≡ changes_row sticks moves)
 
 -- nothing is told of an outcome that is refused
 abbrev pub TellsMovesOf : Game → Result Outcome RowFault → ℕ → List MoveRow → List MoveRow → ChangesRow → ChangesRow → Type 0
 TellsMovesOf game (Err fault) told before after none changes = (told ≡ row_fault_number (Some fault)) × (after ≡ before) × (changes ≡ none)
 TellsMovesOf game (Ok outcome) told before after none changes =
-    (told ≡ 0) × AreTold game.progress.state.sticks (moves_of game.progress.state game.rules outcome) before after changes
+    (told ≡ 0) × AreMovesTold game.progress.state.sticks (moves_of game.progress.state game.rules outcome) before after changes
 
 abbrev pub TellsMoves : Result Game ℕ → OutcomeRow → ℕ → List MoveRow → List MoveRow → ChangesRow → ChangesRow → Type 0
 TellsMoves (Err number) row told before after none changes = (told ≡ number) × (after ≡ before) × (changes ≡ none)

@@ -3,10 +3,10 @@ ghost use Rattle.std.specs.Prelude.{◌≡◌, Some};
 ghost use Rattle.riichi_game_rows.specs.Fours.{player_in as player_numbered};
 ghost use Rattle.riichi_win_arrays.specs.WinRows.{by_in as by_of_number};
 ghost use Rattle.riichi_desk_c.specs.Games as spec;
-ghost use Rattle.riichi_desk_c.specs.Games.{game_of as game_of_rows};
+ghost use Rattle.riichi_desk_c.specs.Games.{game_in_rows as game_of_rows};
 ghost use Rattle.riichi_desk_c.specs.Replies.{rules_numbered as rules_of_number};
 
-use crate::game_rows::{Game, game_of};
+use crate::game_rows::{Game, game_in_rows};
 use crate::rules_numbered;
 use riichi_game_rows::{
     NeedsRow, ProgressRow, QuestionRow, TableRow, WorthRow, counted_base, player_in, told_number,
@@ -33,7 +33,7 @@ pub extern "C" fn riichi_game_needs(
     ensures { spec.TellsNeeds (spec.asked (game_of_rows table.now progress.now) question.now)
         result needs.old needs.new }
 {
-    match asked(game_of(table, progress), question) {
+    match asked(game_in_rows(table, progress), question) {
         Err(number) => number,
         Ok(question) => {
             *needs = NeedsRow::of(&needs_of(&question));
@@ -70,7 +70,7 @@ pub extern "C" fn riichi_game_worth(
     ensures { spec.TellsWorth (game_of_rows table.now progress.now) (player_numbered winner)
         (by_of_number by) hand.now result worth.old worth.new }
 {
-    let game = match game_of(table, progress) {
+    let game = match game_in_rows(table, progress) {
         Err(number) => return number,
         Ok(game) => game,
     };

@@ -32,8 +32,8 @@ pub(crate) fn rules_in(row: &TableRow) -> Option<TableRules>
 }
 
 /// The rules that a row says, if a table may choose them.
-pub(crate) fn table_of(row: &TableRow) -> Option<TableRules>
-    ensures { result ≡ tables.table_of row.now }
+pub(crate) fn allowed_rules_in(row: &TableRow) -> Option<TableRules>
+    ensures { result ≡ tables.allowed_rules_in row.now }
 {
     match rules_in(row) {
         None => None,
@@ -48,10 +48,10 @@ pub(crate) fn table_of(row: &TableRow) -> Option<TableRules>
 }
 
 /// The game that two rows say, or the number of their fault.
-pub(crate) fn game_of(table: &TableRow, progress: &ProgressRow) -> Result<Game, u32>
-    ensures { result ≡ spec.game_of table.now progress.now }
+pub(crate) fn game_in_rows(table: &TableRow, progress: &ProgressRow) -> Result<Game, u32>
+    ensures { result ≡ spec.game_in_rows table.now progress.now }
 {
-    let Some(rules) = table_of(table) else {
+    let Some(rules) = allowed_rules_in(table) else {
         return Err(NO_TABLE);
     };
     match progress.progress() {

@@ -1,10 +1,10 @@
 //! A game of four players: its rules, how far it comes by outcomes, what these move, and the final points.
 ghost use Rattle.std.specs.Prelude.{◌≡◌};
-ghost use Rattle.riichi_desk_c.specs.GameTables.{IsTableOf, fault_number_by, rules_in as rules_of_row, table_named as named, table_of as table_of_row};
+ghost use Rattle.riichi_desk_c.specs.GameTables.{IsTableOf, fault_number_by, rules_in as rules_of_row, table_named as named, allowed_rules_in as table_of_row};
 ghost use Rattle.riichi_desk_c.specs.Games as spec;
-ghost use Rattle.riichi_desk_c.specs.Games.{game_of as game_of_rows};
+ghost use Rattle.riichi_desk_c.specs.Games.{game_in_rows as game_of_rows};
 
-use crate::game_rows::{NO_TABLE, game_of, rules_in, table_of};
+use crate::game_rows::{NO_TABLE, allowed_rules_in, game_in_rows, rules_in};
 use riichi_game::Progress;
 use riichi_game_rows::{
     ChangesRow, FinalsRow, MoveRow, OutcomeRow, ProgressRow, TableRow, accepted_outcome,
@@ -55,7 +55,7 @@ pub extern "C" fn riichi_game_table_fault(table: &TableRow) -> u32
 pub extern "C" fn riichi_game_first(table: &TableRow, progress: &mut ProgressRow) -> u32
     ensures { spec.IsFirst (table_of_row table.now) result progress.old progress.new }
 {
-    match table_of(table) {
+    match allowed_rules_in(table) {
         None => NO_TABLE,
         Some(rules) => {
             *progress = ProgressRow::of(&Progress::first(&rules));
@@ -76,7 +76,7 @@ pub extern "C" fn riichi_game_after(
     ensures { spec.GoesOnBy (game_of_rows table.now progress.old)
         outcomes.now fault.new result progress.old progress.new }
 {
-    match game_of(table, progress) {
+    match game_in_rows(table, progress) {
         Err(number) => {
             *fault = number;
             0
@@ -103,7 +103,7 @@ pub extern "C" fn riichi_game_moves(
     ensures { spec.TellsMoves (game_of_rows table.now progress.now) outcome.now result
         moves.old moves.new changes.old changes.new }
 {
-    match game_of(table, progress) {
+    match game_in_rows(table, progress) {
         Err(number) => number,
         Ok(game) => match accepted_outcome(&game.progress, &game.rules, outcome) {
             Err(fault) => row_fault_number(Some(fault)),
@@ -126,7 +126,7 @@ pub extern "C" fn riichi_game_finals(
 ) -> u32
     ensures { spec.TellsFinals (game_of_rows table.now progress.now) result finals.old finals.new }
 {
-    match game_of(table, progress) {
+    match game_in_rows(table, progress) {
         Err(number) => number,
         Ok(game) => {
             let state = &game.progress.state;

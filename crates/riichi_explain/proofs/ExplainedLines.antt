@@ -377,14 +377,14 @@ other_words-plain sorts =
     let orphans = waits.word_if sorts.orphans (codes ", thirteen orphans") in
     after3 pair two_pairs orphans (word_if-plain sorts.pair (codes ", pair (tanki)") refl) (word_if-plain sorts.two_pairs (codes ", two pairs (shanpon)") refl) (word_if-plain sorts.orphans (codes ", thirteen orphans") refl)
 
-left_text-plain : (kind left : ℕ) → plain (waits.left_text kind left) ≡ true
-unfolding waits.left_text
+left_text-plain : (kind left : ℕ) → plain (waits.kind_left_text kind left) ≡ true
+unfolding waits.kind_left_text
 left_text-plain kind left = after4 (kind_text kind) (codes " ") (decimal left) (codes " left") (kind_text-plain kind) refl (decimal-plain left) refl
 
 wait_text-plain : (row : KindWait) → plain (waits.wait_text row) ≡ true
 unfolding waits.wait_text
 wait_text-plain row =
-    after3 (waits.left_text row.kind row.left) (waits.run_words row.sorts) (waits.other_words row.sorts) (left_text-plain row.kind row.left) (run_words-plain row.sorts) (other_words-plain row.sorts)
+    after3 (waits.kind_left_text row.kind row.left) (waits.run_words row.sorts) (waits.other_words row.sorts) (left_text-plain row.kind row.left) (run_words-plain row.sorts) (other_words-plain row.sorts)
 
 waits_line-lines : (rows : List KindWait) → are_indented (waits.waits_line rows) ≡ true
 unfolding waits.waits_line

@@ -90,11 +90,11 @@ run_words sorts = word_if sorts.two_sided (codes ", two-sided (ryanmen)") ++ wor
 unfoldable pub other_words : WaitSorts → List ℕ
 other_words sorts = word_if sorts.pair (codes ", pair (tanki)") ++ word_if sorts.two_pairs (codes ", two pairs (shanpon)") ++ word_if sorts.orphans (codes ", thirteen orphans")
 
-unfoldable pub left_text : ℕ → ℕ → List ℕ
-left_text kind left = kind_text kind ++ codes " " ++ decimal left ++ codes " left"
+unfoldable pub kind_left_text : ℕ → ℕ → List ℕ
+kind_left_text kind left = kind_text kind ++ codes " " ++ decimal left ++ codes " left"
 
 unfoldable pub wait_text : KindWait → List ℕ
-wait_text row = left_text row.kind row.left ++ run_words row.sorts ++ other_words row.sorts
+wait_text row = kind_left_text row.kind row.left ++ run_words row.sorts ++ other_words row.sorts
 
 unfoldable pub waits_line : List KindWait → List ℕ
 waits_line [] = codes "  no tile that is left completes the hand\n"

@@ -53,16 +53,16 @@ impl ListItem<REASONS_ROOM> for KindWait {
 
     #[tactic(auto, unfolding(crate::specs::Waits::wait_text))]
     fn push(&self, text: &mut ReasonsText) {
-        push_left(text, self.kind, self.left);
+        push_kind_left(text, self.kind, self.left);
         push_run_words(text, &self.sorts);
         push_other_words(text, &self.sorts);
     }
 }
 
-#[tactic(auto, unfolding(crate::specs::Waits::left_text))]
-fn push_left(text: &mut ReasonsText, kind: Kind, left: u8)
+#[tactic(auto, unfolding(crate::specs::Waits::kind_left_text))]
+fn push_kind_left(text: &mut ReasonsText, kind: Kind, left: u8)
     requires { array_string_len text.old + MOST_LEFT ≤ REASONS_ROOM }
-    ensures bytes { text.new.bytes ≡ text.old.bytes ++ spec.left_text kind left }
+    ensures bytes { text.new.bytes ≡ text.old.bytes ++ spec.kind_left_text kind left }
     ensures len { array_string_len text.new ≤ array_string_len text.old + MOST_LEFT }
 {
     push_kind(text, kind);

@@ -5,7 +5,7 @@ use Rattle.riichi_table.specs.declared.fault.OutcomeFault.{OutcomeFault}
 use Rattle.riichi_table.specs.declared.fault.OutcomeFault.TheVariants as fault
 use Rattle.riichi_table.specs.declared.outcome.Outcome.{Outcome}
 use Rattle.riichi_game.specs.Outcomes.{is_penalty}
-use Rattle.riichi_game.specs.Line.{fault_if, first_fault, line_fault}
+use Rattle.riichi_game.specs.Line.{fault_if, first_outcome_fault, line_fault}
 use Rattle.riichi_game.specs.Following.{counters_after, sticks_after}
 use Rattle.riichi_game.specs.Faults.{bet_of_too_few, riichi_not_ready, has_wrong_total, has_wrong_round, table_fault, points_fit, room_fault, either, fault_of, unless}
 use Rattle.riichi_game.specs.declared.game.Progress.{Progress}
@@ -21,11 +21,11 @@ no_fault (Some fault) value after h = absurd (cc)
 
 -- ---- lists of faults
 
-holds_not : (holds : Bool) (fault : OutcomeFault) (rest : List (Option OutcomeFault)) → first_fault (fault_if fault holds ∷ rest) ≡ None → holds ≡ false
+holds_not : (holds : Bool) (fault : OutcomeFault) (rest : List (Option OutcomeFault)) → first_outcome_fault (fault_if fault holds ∷ rest) ≡ None → holds ≡ false
 holds_not true fault rest h = absurd (cc)
 holds_not false fault rest h = refl
 
-rest_not : (holds : Bool) (fault : OutcomeFault) (rest : List (Option OutcomeFault)) → first_fault (fault_if fault holds ∷ rest) ≡ None → first_fault rest ≡ None
+rest_not : (holds : Bool) (fault : OutcomeFault) (rest : List (Option OutcomeFault)) → first_outcome_fault (fault_if fault holds ∷ rest) ≡ None → first_outcome_fault rest ≡ None
 rest_not true fault rest h = absurd (cc)
 rest_not false fault rest h = h
 

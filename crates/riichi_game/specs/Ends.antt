@@ -2,7 +2,7 @@
 use Rattle.std.specs.Prelude.{ℕ, ◌+◌, Bool, true, false, not, ◌&&◌, ◌||◌, nat_lt, ℤ, pos, int_lt, int_le, Option, Some, None, is_some}
 use Rattle.riichi_hand.specs.declared.win.Wind.{Wind}
 use Rattle.riichi_hand.specs.declared.win.Wind.TheVariants.{East, South, West, North}
-use Rattle.riichi_table.specs.Players.{of_player, is_same, of_some}
+use Rattle.riichi_table.specs.Players.{of_player, is_same_player, of_some}
 use Rattle.riichi_table.specs.declared.player.Player.TheVariants.{Fourth}
 use Rattle.riichi_table.specs.declared.player.ByPlayer.{ByPlayer}
 use Rattle.riichi_table.specs.declared.rules.TableRules.{TableRules}
@@ -68,7 +68,7 @@ is_win_or_draw other = false
 
 -- the round ends where its fourth dealer doesn't stay
 abbrev pub ends_round : GameState → Bool → Bool
-ends_round state stays = is_same state.dealer Fourth && not stays
+ends_round state stays = is_same_player state.dealer Fourth && not stays
 
 -- the last round ends where somebody has enough points; the one more by its fourth dealer, or as soon as somebody has
 abbrev pub is_over_by_length : TableRules → GameState → Bool → ByPlayer ℤ → Bool
@@ -81,7 +81,7 @@ is_over_by_length rules state stays points =
 -- with enough points
 abbrev pub is_over_by_stop : TableRules → GameState → Bool → Bool → ByPlayer ℤ → Bool
 is_over_by_stop rules state win_or_draw stays points =
-    rules.stop && win_or_draw && is_same state.dealer Fourth && stays && not (is_before_last rules state.round)
+    rules.stop && win_or_draw && is_same_player state.dealer Fourth && stays && not (is_before_last rules state.round)
     && fourth_leads points && (is_behind_last rules state.round || is_enough rules.extra points)
 
 unfoldable pub is_over_with : TableRules → GameState → Bool → Bool → ByPlayer ℤ → Bool

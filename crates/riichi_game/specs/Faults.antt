@@ -13,7 +13,7 @@ use Rattle.riichi_table.specs.declared.outcome.Outcome.TheVariants.{Draw, Chombo
 use Rattle.riichi_table.specs.declared.fault.OutcomeFault.{OutcomeFault}
 use Rattle.riichi_table.specs.declared.fault.OutcomeFault.TheVariants as fault
 use Rattle.riichi_game.specs.Outcomes.{riichi_in, is_penalty}
-use Rattle.riichi_game.specs.Line.{fault_if, first_fault, line_fault}
+use Rattle.riichi_game.specs.Line.{fault_if, first_outcome_fault, line_fault}
 use Rattle.riichi_game.specs.Following.{points_after, counters_after, sticks_after, state_after}
 use Rattle.riichi_game.specs.Ends.{has_round, over_after}
 use Rattle.riichi_game.specs.declared.game.Progress.{Progress}
@@ -46,7 +46,7 @@ has_wrong_round rules (Stands written) = not (has_round rules written.round)
 has_wrong_round rules other = false
 
 unfoldable pub table_fault : GameState → TableRules → Outcome → Option OutcomeFault
-table_fault state rules outcome = first_fault (
+table_fault state rules outcome = first_outcome_fault (
     fault_if fault.BetOfTooFew (rules.bust && bet_of_too_few state outcome)
     ∷ fault_if fault.RiichiNotReady (riichi_not_ready outcome)
     ∷ fault_if fault.StandsSum (has_wrong_total rules outcome)
@@ -82,7 +82,7 @@ points_fit progress rules outcome =
     are_kept (points_after progress.state rules outcome) && are_few (penalties_after progress.penalties rules outcome)
 
 unfoldable pub room_fault : Progress → TableRules → Outcome → Option OutcomeFault
-room_fault progress rules outcome = first_fault (
+room_fault progress rules outcome = first_outcome_fault (
     fault_if fault.OverCounters (nat_lt 99 (counters_after progress.state rules outcome))
     ∷ fault_if fault.OverSticks (nat_lt 99 (sticks_after progress.state rules outcome))
     ∷ fault_if fault.OverPoints (not (points_fit progress rules outcome))

@@ -2,7 +2,7 @@
 use Rattle.std.specs.Prelude.{ℕ, ◌+◌, Bool, true, false, if◌then◌else◌, ℤ}
 use Rattle.riichi_hand.specs.declared.win.Wind.{Wind}
 use Rattle.riichi_hand.specs.declared.win.Wind.TheVariants.{East, South, West, North}
-use Rattle.riichi_table.specs.Players.{of_player, is_same, after}
+use Rattle.riichi_table.specs.Players.{of_player, is_same_player, after}
 use Rattle.riichi_table.specs.declared.player.Player.{Player}
 use Rattle.riichi_table.specs.declared.player.Player.TheVariants.{Fourth}
 use Rattle.riichi_table.specs.declared.player.ByPlayer.{ByPlayer}
@@ -13,7 +13,7 @@ use Rattle.riichi_table.specs.declared.state.GameState.{GameState}
 use Rattle.riichi_table.specs.declared.outcome.Outcome.{Outcome}
 use Rattle.riichi_table.specs.declared.outcome.Outcome.TheVariants.{Ron, Tsumo, Draw, Abort, Stands}
 use Rattle.riichi_settle.specs.Winners.{wins_of, as_played}
-use Rattle.riichi_settle.specs.Settled.{points_by, sticks_by, moves_of}
+use Rattle.riichi_settle.specs.Settled.{points_after_moves, sticks_by, moves_of}
 
 -- ---- who deals next, of an outcome as it is played
 
@@ -24,7 +24,7 @@ stays_ready renchan.Win ready = false
 -- the dealer stays who wins, or is ready at a draw where the rules say so, or whose deal is played again
 unfoldable pub stays : Renchan → Player → Outcome → Bool
 stays renchan dealer (Ron from wins riichi) = wins_of wins dealer
-stays renchan dealer (Tsumo winner win riichi) = is_same winner dealer
+stays renchan dealer (Tsumo winner win riichi) = is_same_player winner dealer
 stays renchan dealer (Draw ready nagashi riichi) = stays_ready renchan (of_player ready dealer)
 stays renchan dealer other = true
 
@@ -34,7 +34,7 @@ one_more_if dealer_wins counters = if dealer_wins then counters + 1 else 0
 -- a counter more after the dealer's win, a draw or an abortive draw; none after the win of others; as many where nothing is played
 unfoldable pub counters_with : ℕ → Player → Outcome → ℕ
 counters_with counters dealer (Ron from wins riichi) = one_more_if (wins_of wins dealer) counters
-counters_with counters dealer (Tsumo winner win riichi) = one_more_if (is_same winner dealer) counters
+counters_with counters dealer (Tsumo winner win riichi) = one_more_if (is_same_player winner dealer) counters
 counters_with counters dealer (Draw ready nagashi riichi) = counters + 1
 counters_with counters dealer (Abort riichi) = counters + 1
 counters_with counters dealer (Stands written) = written.counters
@@ -58,7 +58,7 @@ stays_after state rules outcome = stays rules.renchan state.dealer (as_played ru
 
 unfoldable pub points_after : GameState → TableRules → Outcome → ByPlayer ℤ
 points_after state rules (Stands written) = written.points
-points_after state rules outcome = points_by state.points (moves_of state rules outcome)
+points_after state rules outcome = points_after_moves state.points (moves_of state rules outcome)
 
 unfoldable pub sticks_after : GameState → TableRules → Outcome → ℕ
 sticks_after state rules (Stands written) = written.sticks

@@ -1,8 +1,8 @@
 -- Why an outcome is refused whatever the table shows, but for its rules.
 use Rattle.std.specs.Prelude.{Bool, false, not, ◌&&◌, ◌||◌, nat_le, nat_lt, if◌then◌else◌, List, [], ◌∷◌, Option, Some, None}
 use Rattle.riichi_hand.specs.Rules.{Rules}
-use Rattle.riichi_table.specs.Players.{of_player, by_players, is_same, of_some}
-use Rattle.riichi_table.specs.Worths.{limits_of}
+use Rattle.riichi_table.specs.Players.{of_player, by_players, is_same_player, of_some}
+use Rattle.riichi_table.specs.Worths.{limits_of_worth}
 use Rattle.riichi_table.specs.declared.player.Player.{Player}
 use Rattle.riichi_table.specs.declared.player.ByPlayer.{ByPlayer}
 use Rattle.riichi_table.specs.declared.rules.TableRules.{TableRules}
@@ -23,10 +23,10 @@ abbrev pub fault_if : OutcomeFault → Bool → Option OutcomeFault
 fault_if fault holds = if holds then Some fault else None
 
 -- the first of some faults that holds
-abbrev pub first_fault : List (Option OutcomeFault) → Option OutcomeFault
-first_fault [] = None
-first_fault (None ∷ faults) = first_fault faults
-first_fault (Some fault ∷ faults) = Some fault
+abbrev pub first_outcome_fault : List (Option OutcomeFault) → Option OutcomeFault
+first_outcome_fault [] = None
+first_outcome_fault (None ∷ faults) = first_outcome_fault faults
+first_outcome_fault (Some fault ∷ faults) = Some fault
 
 -- ---- who takes part
 
@@ -40,7 +40,7 @@ discarder_wins other = false
 
 abbrev pub is_liable : Option Liable → Player → Bool
 is_liable None player = false
-is_liable (Some liable) player = is_same liable.player player
+is_liable (Some liable) player = is_same_player liable.player player
 
 abbrev pub is_liable_for : Option Win → Player → Bool
 is_liable_for None player = false
@@ -73,7 +73,7 @@ no_such_worth rules wins = of_some (λ player. has_no_worth rules (of_player win
 -- liability is for one limit at least, and for no more than the hand has; a counted hand has none
 abbrev pub has_wrong_limits : Worth → Option Liable → Bool
 has_wrong_limits worth None = false
-has_wrong_limits worth (Some liable) = nat_lt liable.limits 1 || nat_lt (limits_of worth) liable.limits
+has_wrong_limits worth (Some liable) = nat_lt liable.limits 1 || nat_lt (limits_of_worth worth) liable.limits
 
 abbrev pub is_wrongly_liable : Option Win → Bool
 is_wrongly_liable None = false
@@ -94,7 +94,7 @@ has_nagashi other = false
 -- ---- together
 
 unfoldable pub line_fault : TableRules → Outcome → Option OutcomeFault
-line_fault rules outcome = first_fault (
+line_fault rules outcome = first_outcome_fault (
     fault_if fault.NobodyWins (nobody_wins outcome)
     ∷ fault_if fault.DiscarderWins (discarder_wins outcome)
     ∷ fault_if fault.WinnerLiable (winner_liable (wins_in outcome))

@@ -38,8 +38,8 @@ is_none rules by han fu = is_low_ron rules by fu || is_low_pairs by han fu || is
 unfoldable pub occurs : Rules → By → ℕ → ℕ → Bool
 occurs rules by han fu = nat_le 1 han && is_fu han fu && not (is_none rules by han fu)
 
-abbrev pub counted_worth : Rules → By → ℕ → ℕ → Option Worth
-counted_worth rules by han fu = if occurs rules by han fu then Some (Counted (base_of rules han fu)) else None
+abbrev pub worth_of_han_and_fu : Rules → By → ℕ → ℕ → Option Worth
+worth_of_han_and_fu rules by han fu = if occurs rules by han fu then Some (Counted (base_of rules han fu)) else None
 
 -- how many limits a yakuman may have: two where some are double, four where several are added, six where both
 abbrev pub most_limits : Rules → ℕ
@@ -50,9 +50,9 @@ most_limits rules =
 abbrev pub is_limits : Rules → ℕ → Bool
 is_limits rules limits = nat_le 1 limits && nat_le limits (most_limits rules)
 
-abbrev pub limit_worth : Rules → LimitHand → Option Worth
-limit_worth rules limit.Mangan = Some (Counted 2000)
-limit_worth rules limit.Haneman = Some (Counted 3000)
-limit_worth rules limit.Baiman = Some (Counted 4000)
-limit_worth rules limit.Sanbaiman = Some (Counted 6000)
-limit_worth rules (limit.Yakuman limits) = if is_limits rules limits then Some (Yakuman limits) else None
+abbrev pub worth_of_limit : Rules → LimitHand → Option Worth
+worth_of_limit rules limit.Mangan = Some (Counted 2000)
+worth_of_limit rules limit.Haneman = Some (Counted 3000)
+worth_of_limit rules limit.Baiman = Some (Counted 4000)
+worth_of_limit rules limit.Sanbaiman = Some (Counted 6000)
+worth_of_limit rules (limit.Yakuman limits) = if is_limits rules limits then Some (Yakuman limits) else None

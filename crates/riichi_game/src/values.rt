@@ -19,7 +19,7 @@ pub enum LimitHand {
 
 /// What a hand of so many han and fu is worth, where some hand has so many.
 pub fn counted_worth(rules: Rules, by: By, han: u8, fu: u8) -> Option<Worth>
-    ensures { result ≡ spec.counted_worth rules by han fu }
+    ensures { result ≡ spec.worth_of_han_and_fu rules by han fu }
 {
     if occurs(rules, by, han, fu) {
         Some(Worth::Counted {
@@ -102,7 +102,7 @@ pub(crate) fn is_limits(rules: Rules, limits: u8) -> bool
 
 /// What a limit hand is worth, where the rules have so many limits.
 pub fn limit_worth(rules: Rules, limit: LimitHand) -> Option<Worth>
-    ensures { result ≡ spec.limit_worth rules limit }
+    ensures { result ≡ spec.worth_of_limit rules limit }
 {
     match limit {
         LimitHand::Mangan => Some(Worth::Counted { base: 2000 }),

@@ -5,11 +5,11 @@ use Rattle.std.proofs.lemmas.List.{length-map, length-take, map-append}
 use Rattle.std.specs.Prelude.{slice_set}
 use Rattle.riichi_arrays.proofs.ColumnLemmas.{put_next}
 use Rattle.riichi_settle.specs.declared.moved.Move.{Move}
-use Rattle.riichi_game_rows.specs.MoveRows.{AreMoved, move_row}
+use Rattle.riichi_game_rows.specs.MoveRows.{AreMovesPut, move_row}
 use Rattle.riichi_game_rows.specs.declared.move_row.MoveRow.{MoveRow}
 
-pub moved_next : (place : ℕ) (moves : List Move) (before after : List MoveRow) (none : Move) (next : MoveRow) → AreMoved place moves before after → place < length moves → place < length before →
-    next ≡ move_row (get_or moves place none) → AreMoved (place + 1) moves before (slice_set after place next)
+pub moved_next : (place : ℕ) (moves : List Move) (before after : List MoveRow) (none : Move) (next : MoveRow) → AreMovesPut place moves before after → place < length moves → place < length before →
+    next ≡ move_row (get_or moves place none) → AreMovesPut (place + 1) moves before (slice_set after place next)
 moved_next place moves before after none next is inside low same =
     let front = map move_row (take place moves) in
     let long : length front ≡ place = omega (arith, length-map (take place moves) move_row, length-take place moves, inside) in

@@ -13,7 +13,7 @@ use Rattle.riichi_game.specs.Games.{or_as_before, after_all}
 use Rattle.riichi_game.specs.declared.game.Progress.{Progress}
 use Rattle.riichi_game.proofs.Order.{goes_on_from_there}
 use Rattle.riichi_game_rows.specs.OutcomeRows.{outcome_in}
-use Rattle.riichi_game_rows.specs.Playing.{refused, fault_by, or_refused, after_by, after_row, progress_at, fault_there, fault_at, IsPlayed}
+use Rattle.riichi_game_rows.specs.Playing.{row_fault_of, fault_by, or_refused, after_by, after_row, progress_at, fault_there, fault_behind, IsPlayedByRows}
 use Rattle.riichi_game_rows.specs.declared.fault_numbers.RowFault.{RowFault}
 use Rattle.riichi_game_rows.specs.declared.outcome_row.OutcomeRow.{OutcomeRow}
 
@@ -28,7 +28,7 @@ one_more : (before after : Progress) (rules : TableRules) (outcome : Option Outc
 one_more before after rules None ok = absurd (cc)
 one_more before after rules (Some outcome) ok = kept (next_of before rules outcome) before after ok
 
-none_of : (fault : Option OutcomeFault) (value after : Progress) → or_refused (unless fault value) ≡ Ok after → refused fault ≡ None
+none_of : (fault : Option OutcomeFault) (value after : Progress) → or_refused (unless fault value) ≡ Ok after → row_fault_of fault ≡ None
 none_of None value after ok = refl
 none_of (Some fault) value after ok = absurd (cc)
 
@@ -37,7 +37,7 @@ no_fault : (before after : Progress) (rules : TableRules) (outcome : Option Outc
 no_fault before after rules None ok = absurd (cc)
 no_fault before after rules (Some outcome) ok = none_of (fault_of before rules outcome) (progress_after before rules outcome) after ok
 
-some_of : (fault : Option OutcomeFault) (value : Progress) (told : RowFault) → or_refused (unless fault value) ≡ Err told → refused fault ≡ Some told
+some_of : (fault : Option OutcomeFault) (value : Progress) (told : RowFault) → or_refused (unless fault value) ≡ Err told → row_fault_of fault ≡ Some told
 some_of None value told err = absurd (cc)
 some_of (Some fault) value told err = cc
 
@@ -66,13 +66,13 @@ module _ (progress : Progress) (rules : TableRules) (rows : List OutcomeRow) (pl
       ∙ one_more (progress_at progress rules rows place) after rules (outcome_in (get_or rows place none)) ok)
 
   row_without_fault : (after : Progress) → after_row (progress_at progress rules rows place) rules (get_or rows place none) ≡ Ok after
-      → fault_at progress rules rows place ≡ None
+      → fault_behind progress rules rows place ≡ None
   row_without_fault after ok =
       ap (fault_there (progress_at progress rules rows place) rules) there
       ∙ no_fault (progress_at progress rules rows place) after rules (outcome_in (get_or rows place none)) ok
 
   row_refused : (told : RowFault) → after_row (progress_at progress rules rows place) rules (get_or rows place none) ≡ Err told
-      → fault_at progress rules rows place ≡ Some told
+      → fault_behind progress rules rows place ≡ Some told
   row_refused told err =
       ap (fault_there (progress_at progress rules rows place) rules) there
       ∙ a_fault (progress_at progress rules rows place) rules (outcome_in (get_or rows place none)) told err
@@ -92,16 +92,16 @@ play_more progress reached after rules rows place none result there is ok inside
 
 pub play_more_without_fault : (progress reached after : Progress) (rules : TableRules) (rows : List OutcomeRow) (place : ℕ) (none : OutcomeRow) (result : Result Progress RowFault)
     → reached ≡ progress_at progress rules rows place → result ≡ after_row reached rules (get_or rows place none) → result ≡ Ok after
-    → place < length rows → ((number : ℕ) → number < place → fault_at progress rules rows number ≡ None)
-    → (number : ℕ) → number < place + 1 → fault_at progress rules rows number ≡ None
+    → place < length rows → ((number : ℕ) → number < place → fault_behind progress rules rows number ≡ None)
+    → (number : ℕ) → number < place + 1 → fault_behind progress rules rows number ≡ None
 play_more_without_fault progress reached after rules rows place none result there is ok inside before =
     below_more _ _ before
     (row_without_fault progress rules rows place none inside after (at_place progress reached rules rows place (get_or rows place none) result there is ∙ ok))
 
 pub play_refused : (progress reached : Progress) (rules : TableRules) (rows : List OutcomeRow) (place : ℕ) (none : OutcomeRow) (result : Result Progress RowFault) (fault : RowFault)
     → reached ≡ progress_at progress rules rows place → result ≡ after_row reached rules (get_or rows place none) → result ≡ Err fault
-    → place < length rows → ((number : ℕ) → number < place → fault_at progress rules rows number ≡ None)
-    → IsPlayed progress rules rows (record { progress = reached; accepted = place; fault = Some fault })
+    → place < length rows → ((number : ℕ) → number < place → fault_behind progress rules rows number ≡ None)
+    → IsPlayedByRows progress rules rows (record { progress = reached; accepted = place; fault = Some fault })
 play_refused progress reached rules rows place none result fault there is err inside before = record {
   some = omega arith;
   none_before = before;
@@ -111,13 +111,13 @@ play_refused progress reached rules rows place none result fault there is err in
 }
 
 -- there is no row behind the last
-behind_last : (progress : Progress) (rules : TableRules) (rows : List OutcomeRow) → fault_at progress rules rows (length rows) ≡ None
+behind_last : (progress : Progress) (rules : TableRules) (rows : List OutcomeRow) → fault_behind progress rules rows (length rows) ≡ None
 behind_last progress rules rows =
     ap (fault_there (progress_at progress rules rows (length rows)) rules) (slice_get_past rows (length rows) (omega arith))
 
 pub play_all : (progress reached : Progress) (rules : TableRules) (rows : List OutcomeRow) (place : ℕ) → place ≤ length rows → length rows ≤ place
-    → reached ≡ progress_at progress rules rows place → ((number : ℕ) → number < place → fault_at progress rules rows number ≡ None)
-    → IsPlayed progress rules rows (record { progress = reached; accepted = length rows; fault = None })
+    → reached ≡ progress_at progress rules rows place → ((number : ℕ) → number < place → fault_behind progress rules rows number ≡ None)
+    → IsPlayedByRows progress rules rows (record { progress = reached; accepted = length rows; fault = None })
 play_all progress reached rules rows place few all there before =
     let same : place ≡ length rows = omega arith in
     record {

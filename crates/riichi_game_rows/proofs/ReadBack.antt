@@ -2,13 +2,13 @@
 use Rattle.std.proofs.Common.{◌≡◌, Bool, true, false, nat_lt, refl}
 use Rattle.riichi_hand.specs.declared.win.Wind.{Wind}
 use Rattle.riichi_hand.specs.declared.win.Wind.TheVariants.{East, South, West, North}
-use Rattle.riichi_table.specs.Players.{one_if}
+use Rattle.riichi_table.specs.Players.{one_where}
 use Rattle.riichi_table.specs.declared.player.Player.{Player}
 use Rattle.riichi_table.specs.declared.player.Player.TheVariants.{First, Second, Third, Fourth}
 use Rattle.riichi_game.specs.Ends.{round_number}
 use Rattle.riichi_places.specs.Places.{seat_number}
 use Rattle.riichi_win_arrays.specs.WinRows.{wind_numbered}
-use Rattle.riichi_game_rows.specs.Fours.{player_numbered, is_set}
+use Rattle.riichi_game_rows.specs.Fours.{player_numbered, is_flag_set}
 use Rattle.riichi_game_rows.specs.Laws.{ProgressIsReadBack}
 
 a_round : (round : Wind) → nat_lt (round_number round) 4 ≡ true
@@ -35,7 +35,7 @@ the_player Second = refl
 the_player Third = refl
 the_player Fourth = refl
 
-the_flag : (holds : Bool) → is_set (one_if holds) ≡ holds
+the_flag : (holds : Bool) → is_flag_set (one_where holds) ≡ holds
 the_flag true = refl
 the_flag false = refl
 

@@ -24,13 +24,13 @@ abbrev pub four_of : {T : Type 0} → ByPlayer T → List T
 four_of by = by.first ∷ by.second ∷ by.third ∷ by.fourth ∷ []
 
 -- a flag is set where its number isn't 0
-abbrev pub is_set : ℕ → Bool
-is_set number = not (number == 0)
+abbrev pub is_flag_set : ℕ → Bool
+is_flag_set number = not (number == 0)
 
-abbrev pub flags_in : List ℕ → ByPlayer Bool
-flags_in four = record {
-  first = is_set (slice_index_or four 0 0);
-  second = is_set (slice_index_or four 1 0);
-  third = is_set (slice_index_or four 2 0);
-  fourth = is_set (slice_index_or four 3 0);
+abbrev pub flags_by_player : List ℕ → ByPlayer Bool
+flags_by_player four = record {
+  first = is_flag_set (slice_index_or four 0 0);
+  second = is_flag_set (slice_index_or four 1 0);
+  third = is_flag_set (slice_index_or four 2 0);
+  fourth = is_flag_set (slice_index_or four 3 0);
 }

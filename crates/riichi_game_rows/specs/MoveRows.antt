@@ -39,8 +39,8 @@ move_row (Sticks to count why) =
     record { points = 1000 * count; sticks = count; from = the_table; to = seat_number to; why = taking_number why }
 
 -- The first places have the rows of the moves, the others what they had.
-abbrev pub AreMoved : ℕ → List Move → List MoveRow → List MoveRow → Type 0
-AreMoved rows moves before after = after ≡ map move_row (take rows moves) ++ drop rows before
+abbrev pub AreMovesPut : ℕ → List Move → List MoveRow → List MoveRow → Type 0
+AreMovesPut rows moves before after = after ≡ map move_row (take rows moves) ++ drop rows before
 
 -- what moves change, where so many sticks lay, and how many moves they are
 abbrev pub changes_row : ℕ → List Move → ChangesRow

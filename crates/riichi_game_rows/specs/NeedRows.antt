@@ -7,7 +7,7 @@ use Rattle.riichi_need.specs.declared.need.Needs.{Needs}
 use Rattle.riichi_need.specs.declared.need.Row.{Row}
 use Rattle.riichi_need.specs.declared.question.Question.{Question}
 use Rattle.riichi_win_arrays.specs.ScoreRows.{paid_by}
-use Rattle.riichi_game_rows.specs.Fours.{player_numbered, flags_in}
+use Rattle.riichi_game_rows.specs.Fours.{player_numbered, flags_by_player}
 use Rattle.riichi_game_rows.specs.declared.need_row.NeedRow.{NeedRow}
 use Rattle.riichi_game_rows.specs.declared.need_row.NeedsRow.{NeedsRow}
 use Rattle.riichi_game_rows.specs.declared.need_row.PaidRow.{PaidRow}
@@ -20,7 +20,7 @@ abbrev pub row_question : TableRules → GameState → QuestionRow → Question
 row_question rules state row = record {
   rules = rules;
   state = state;
-  bets = flags_in row.riichi;
+  bets = flags_by_player row.riichi;
   player = player_numbered row.player;
   place = row.place;
 }

@@ -16,13 +16,13 @@ use Rattle.riichi_game_rows.specs.declared.playing.Played.{Played}
 -- ---- one row
 
 -- the fault of an outcome, if it has one
-abbrev pub refused : Option OutcomeFault → Option RowFault
-refused None = None
-refused (Some fault) = Some (Refused fault)
+abbrev pub row_fault_of : Option OutcomeFault → Option RowFault
+row_fault_of None = None
+row_fault_of (Some fault) = Some (Refused fault)
 
 abbrev pub fault_by : Progress → TableRules → Option Outcome → Option RowFault
 fault_by progress rules None = Some SaysNothing
-fault_by progress rules (Some outcome) = refused (fault_of progress rules outcome)
+fault_by progress rules (Some outcome) = row_fault_of (fault_of progress rules outcome)
 
 -- why a row is refused, or nothing
 abbrev pub fault_of_row : Progress → TableRules → OutcomeRow → Option RowFault
@@ -61,13 +61,13 @@ fault_there progress rules None = None
 fault_there progress rules (Some row) = fault_of_row progress rules row
 
 -- why the row behind so many is refused, by how far the game has come there; nothing behind the last
-abbrev pub fault_at : Progress → TableRules → List OutcomeRow → ℕ → Option RowFault
-fault_at progress rules rows number = fault_there (progress_at progress rules rows number) rules (slice_get rows number)
+abbrev pub fault_behind : Progress → TableRules → List OutcomeRow → ℕ → Option RowFault
+fault_behind progress rules rows number = fault_there (progress_at progress rules rows number) rules (slice_get rows number)
 
 -- The game went on by all rows before the first that is refused.
-pub record IsPlayed (progress : Progress) (rules : TableRules) (rows : List OutcomeRow) (played : Played) : Type 0 where
+pub record IsPlayedByRows (progress : Progress) (rules : TableRules) (rows : List OutcomeRow) (played : Played) : Type 0 where
   pub some : played.accepted ≤ length rows
-  pub none_before : (number : ℕ) → number < played.accepted → fault_at progress rules rows number ≡ None
-  pub fault_is : played.fault ≡ fault_at progress rules rows played.accepted
+  pub none_before : (number : ℕ) → number < played.accepted → fault_behind progress rules rows number ≡ None
+  pub fault_is : played.fault ≡ fault_behind progress rules rows played.accepted
   pub all : played.fault ≡ None → played.accepted ≡ length rows
   pub progress_is : played.progress ≡ progress_at progress rules rows played.accepted

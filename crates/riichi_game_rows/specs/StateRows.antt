@@ -4,9 +4,9 @@ use Rattle.riichi_table.specs.declared.state.GameState.{GameState}
 use Rattle.riichi_game.specs.declared.game.Progress.{Progress}
 use Rattle.riichi_game.specs.Ends.{round_number}
 use Rattle.riichi_places.specs.Places.{seat_number}
-use Rattle.riichi_table.specs.Players.{one_if}
+use Rattle.riichi_table.specs.Players.{one_where}
 use Rattle.riichi_win_arrays.specs.WinRows.{wind_numbered}
-use Rattle.riichi_game_rows.specs.Fours.{player_numbered, by_player, four_of, is_set}
+use Rattle.riichi_game_rows.specs.Fours.{player_numbered, by_player, four_of, is_flag_set}
 use Rattle.riichi_game_rows.specs.declared.state_row.StateRow.{StateRow}
 use Rattle.riichi_game_rows.specs.declared.state_row.ProgressRow.{ProgressRow}
 
@@ -36,7 +36,7 @@ state_row state = record {
 }
 
 abbrev pub row_progress : ProgressRow → Progress
-row_progress row = record { state = row_state row.state; is_over = is_set row.over; penalties = by_player 0 row.penalties }
+row_progress row = record { state = row_state row.state; is_over = is_flag_set row.over; penalties = by_player 0 row.penalties }
 
 abbrev pub progress_in : ProgressRow → Option Progress
 progress_in row = if is_state row.state then Some (row_progress row) else None
@@ -45,5 +45,5 @@ abbrev pub progress_row : Progress → ProgressRow
 progress_row progress = record {
   state = state_row progress.state;
   penalties = four_of progress.penalties;
-  over = one_if progress.is_over;
+  over = one_where progress.is_over;
 }

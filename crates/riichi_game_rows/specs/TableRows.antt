@@ -1,7 +1,7 @@
 -- The rules of a table as a row.
 use Rattle.std.specs.Prelude.{ℕ, ◌==◌, ◌&&◌, nat_lt, Bool, ℤ, pos, List, [], ◌∷◌, Option, Some, None, if◌then◌else◌, slice_index_or}
 use Rattle.riichi_hand.specs.Rules.{Rules}
-use Rattle.riichi_table.specs.Players.{one_if}
+use Rattle.riichi_table.specs.Players.{one_where}
 use Rattle.riichi_table.specs.declared.rules.ByPlace.{ByPlace}
 use Rattle.riichi_table.specs.declared.rules.ChomboCost.{ChomboCost}
 use Rattle.riichi_table.specs.declared.rules.ChomboCost.TheVariants as cost
@@ -20,7 +20,7 @@ use Rattle.riichi_table.specs.declared.rules.LastRound.{LastRound}
 use Rattle.riichi_table.specs.declared.rules.LastRound.TheVariants as last
 use Rattle.riichi_table.specs.declared.rules.LeftSticks.{LeftSticks}
 use Rattle.riichi_table.specs.declared.rules.LeftSticks.TheVariants as left
-use Rattle.riichi_game_rows.specs.Fours.{is_set}
+use Rattle.riichi_game_rows.specs.Fours.{is_flag_set}
 use Rattle.riichi_game_rows.specs.declared.table_row.TableRow.{TableRow}
 
 -- the number that stands for no points: no round more, or a mangan
@@ -50,11 +50,11 @@ length_numbered number = if number == 0 then last.South else last.East
 abbrev pub left_numbered : ℕ → LeftSticks
 left_numbered number = if number == 0 then left.First else left.Lost
 
-abbrev pub extra_of : ℕ → Option ℕ
-extra_of points = if points == no_points then None else Some points
+abbrev pub extra_numbered : ℕ → Option ℕ
+extra_numbered points = if points == no_points then None else Some points
 
-abbrev pub chombo_of : ℕ → ChomboCost
-chombo_of points = if points == no_points then cost.Mangan else cost.Points points
+abbrev pub chombo_numbered : ℕ → ChomboCost
+chombo_numbered points = if points == no_points then cost.Mangan else cost.Points points
 
 abbrev pub uma_in : List ℤ → ByPlace ℤ
 uma_in four = record {
@@ -80,15 +80,15 @@ row_table hand row = record {
   ron = ron_numbered row.ron;
   counters = counters_numbered row.counters;
   sticks = sticks_numbered row.sticks;
-  liable = is_set row.liable;
-  nagashi = is_set row.nagashi;
+  liable = is_flag_set row.liable;
+  nagashi = is_flag_set row.nagashi;
   renchan = renchan_numbered row.renchan;
   length = length_numbered row.length;
-  extra = extra_of row.extra;
-  bust = is_set row.bust;
-  stop = is_set row.stop;
+  extra = extra_numbered row.extra;
+  bust = is_flag_set row.bust;
+  stop = is_flag_set row.stop;
   left = left_numbered row.left;
-  chombo = chombo_of row.chombo;
+  chombo = chombo_numbered row.chombo;
 }
 
 -- the rules of a row, where hands are valued by these
@@ -147,12 +147,12 @@ table_row number rules = record {
   ron = ron_number rules.ron;
   counters = counters_number rules.counters;
   sticks = sticks_number rules.sticks;
-  liable = one_if rules.liable;
-  nagashi = one_if rules.nagashi;
+  liable = one_where rules.liable;
+  nagashi = one_where rules.nagashi;
   renchan = renchan_number rules.renchan;
   length = length_number rules.length;
-  bust = one_if rules.bust;
-  stop = one_if rules.stop;
+  bust = one_where rules.bust;
+  stop = one_where rules.stop;
   left = left_number rules.left;
   zero = 0;
 }

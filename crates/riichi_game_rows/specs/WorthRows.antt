@@ -16,8 +16,8 @@ abbrev pub no_worth : WorthRow
 no_worth = record { base = 0; limits = 0; kind = 0; liable = 0; liable_limits = 0 }
 
 -- a kind that there is, and nobody or one of the four players
-abbrev pub is_worth : WorthRow → Bool
-is_worth row = nat_lt row.kind 3 && nat_le row.liable 4
+abbrev pub is_worth_row : WorthRow → Bool
+is_worth_row row = nat_lt row.kind 3 && nat_le row.liable 4
 
 abbrev pub row_worth : WorthRow → Worth
 row_worth row = if row.kind == 1 then Counted row.base else Yakuman row.limits

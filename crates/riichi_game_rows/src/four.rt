@@ -18,8 +18,8 @@ pub fn player_in(number: u32) -> Option<Player>
 }
 
 /// A flag of each player, which is set where its byte isn't 0.
-pub(crate) fn flags_in(four: &[u8; 4]) -> ByPlayer<bool>
-    ensures { result ≡ spec.flags_in four.now }
+pub(crate) fn flags_by_player(four: &[u8; 4]) -> ByPlayer<bool>
+    ensures { result ≡ spec.flags_by_player four.now }
 {
     ByPlayer {
         first: four[0] != 0,

@@ -40,7 +40,7 @@ const TABLE: u8 = 4;
 #[tactic(auto, using(crate::proofs::MoveLemmas::moved_next))]
 pub fn fill_moves(moves: &[Move], rows: &mut [MoveRow]) -> usize
     ensures rows { result ≡ min (length moves.now) (length rows.old) }
-    ensures moved { spec.AreMoved result moves.now rows.old rows.new }
+    ensures moved { spec.AreMovesPut result moves.now rows.old rows.new }
 {
     let filled = moves.len().min(rows.len());
     for place in 0..filled {

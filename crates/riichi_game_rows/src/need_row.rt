@@ -2,7 +2,7 @@
 ghost use Rattle.std.specs.Prelude.{◌≡◌};
 ghost use Rattle.riichi_game_rows.specs.NeedRows as spec;
 
-use crate::four::{flags_in, player_in};
+use crate::four::{flags_by_player, player_in};
 use riichi_need::{Need, Needs, Question, Row};
 use riichi_table::{GameState, TableRules};
 use riichi_win_arrays::paid_by;
@@ -65,7 +65,7 @@ impl QuestionRow {
         Some(Question {
             rules: *rules,
             state: *state,
-            bets: flags_in(&self.riichi),
+            bets: flags_by_player(&self.riichi),
             player,
             place: self.place,
         })

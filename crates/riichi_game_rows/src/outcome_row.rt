@@ -2,7 +2,7 @@
 ghost use Rattle.std.specs.Prelude.{◌≡◌};
 ghost use Rattle.riichi_game_rows.specs.OutcomeRows as spec;
 
-use crate::four::{flags_in, player_in};
+use crate::four::{flags_by_player, player_in};
 use crate::state_row::StateRow;
 use crate::worth_row::WorthRow;
 use riichi_table::{ByPlayer, GameState, Outcome, Player, Win};
@@ -35,7 +35,7 @@ impl OutcomeRow {
         ensures { result ≡ spec.outcome_in self.now }
     {
         let player = player_in(u32::from(self.player))?;
-        let wins = wins_in(&self.wins)?;
+        let wins = wins_in_rows(&self.wins)?;
         let state = self.state.state()?;
         self.outcome_with(player, &wins, &state)
     }
@@ -48,7 +48,7 @@ impl OutcomeRow {
     ) -> Option<Outcome>
         ensures { result ≡ spec.outcome_with self.now player wins.now state.now }
     {
-        let riichi = flags_in(&self.riichi);
+        let riichi = flags_by_player(&self.riichi);
         match self.kind {
             0 => Some(Outcome::Ron {
                 from: player,
@@ -61,8 +61,8 @@ impl OutcomeRow {
                 riichi,
             }),
             2 => Some(Outcome::Draw {
-                ready: flags_in(&self.ready),
-                nagashi: flags_in(&self.nagashi),
+                ready: flags_by_player(&self.ready),
+                nagashi: flags_by_player(&self.nagashi),
                 riichi,
             }),
             3 => Some(Outcome::Abort { riichi }),
@@ -79,8 +79,8 @@ impl OutcomeRow {
 }
 
 /// What each player wins, none where one of the rows says nothing.
-fn wins_in(wins: &[WorthRow; 4]) -> Option<ByPlayer<Option<Win>>>
-    ensures { result ≡ spec.wins_in wins.now }
+fn wins_in_rows(wins: &[WorthRow; 4]) -> Option<ByPlayer<Option<Win>>>
+    ensures { result ≡ spec.wins_in_rows wins.now }
 {
     if are_worths(wins) {
         Some(ByPlayer {

@@ -20,7 +20,7 @@ pub struct Played {
 
 /// Goes on by rows of outcomes, up to the first that is refused.
 pub fn play(progress: &Progress, rules: &TableRules, rows: &[OutcomeRow]) -> Played
-    ensures { spec.IsPlayed progress.now rules.now rows.now result }
+    ensures { spec.IsPlayedByRows progress.now rules.now rows.now result }
 {
     let mut reached = *progress;
     for accepted in 0..rows.len() {

@@ -1,7 +1,7 @@
 //! The rules of a table as a row.
 ghost use Rattle.std.specs.Prelude.{◌≡◌};
 ghost use Rattle.riichi_game_rows.specs.TableRows as spec;
-ghost use Rattle.riichi_table.specs.Players.{one_if as one};
+ghost use Rattle.riichi_table.specs.Players.{one_where as one};
 
 use riichi_hand::Rules;
 use riichi_table::{
@@ -96,11 +96,11 @@ impl TableRow {
             nagashi: self.nagashi != 0,
             renchan: renchan_numbered(self.renchan),
             length: length_numbered(self.length),
-            extra: extra_of(self.extra),
+            extra: extra_numbered(self.extra),
             bust: self.bust != 0,
             stop: self.stop != 0,
             left: left_numbered(self.left),
-            chombo: chombo_of(self.chombo),
+            chombo: chombo_numbered(self.chombo),
         }
     }
 
@@ -120,19 +120,19 @@ impl TableRow {
             ron: ron_number(rules.ron),
             counters: counters_number(rules.counters),
             sticks: sticks_number(rules.sticks),
-            liable: one_if(rules.liable),
-            nagashi: one_if(rules.nagashi),
+            liable: one_where(rules.liable),
+            nagashi: one_where(rules.nagashi),
             renchan: renchan_number(rules.renchan),
             length: length_number(rules.length),
-            bust: one_if(rules.bust),
-            stop: one_if(rules.stop),
+            bust: one_where(rules.bust),
+            stop: one_where(rules.stop),
             left: left_number(rules.left),
             zero: 0,
         }
     }
 }
 
-fn one_if(holds: bool) -> u8
+fn one_where(holds: bool) -> u8
     ensures { result ≡ one holds }
 {
     if holds { 1 } else { 0 }
@@ -213,8 +213,8 @@ fn left_numbered(number: u8) -> LeftSticks
     }
 }
 
-fn extra_of(points: u32) -> Option<u32>
-    ensures { result ≡ spec.extra_of points }
+fn extra_numbered(points: u32) -> Option<u32>
+    ensures { result ≡ spec.extra_numbered points }
 {
     if points == NO_POINTS {
         None
@@ -223,8 +223,8 @@ fn extra_of(points: u32) -> Option<u32>
     }
 }
 
-fn chombo_of(points: u32) -> ChomboCost
-    ensures { result ≡ spec.chombo_of points }
+fn chombo_numbered(points: u32) -> ChomboCost
+    ensures { result ≡ spec.chombo_numbered points }
 {
     if points == NO_POINTS {
         ChomboCost::Mangan

@@ -36,14 +36,14 @@ impl WorthRow {
 
     /// Whether kind and liable player are some that there are.
     pub(crate) fn is_worth(&self) -> bool
-        ensures { result ≡ spec.is_worth self.now }
+        ensures { result ≡ spec.is_worth_row self.now }
     {
         self.kind < 3 && self.liable <= 4
     }
 
     /// What the player wins, if anything.
     pub(crate) fn win(&self) -> Option<Win>
-        requires { spec.is_worth self.now ≡ true }
+        requires { spec.is_worth_row self.now ≡ true }
         ensures { result ≡ spec.row_win self.now }
     {
         if self.kind == 0 {
@@ -68,7 +68,7 @@ impl WorthRow {
     }
 
     fn liable(&self) -> Option<Liable>
-        requires { spec.is_worth self.now ≡ true }
+        requires { spec.is_worth_row self.now ≡ true }
         ensures { result ≡ spec.row_liable self.now }
     {
         if self.liable == 0 {

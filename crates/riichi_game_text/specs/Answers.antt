@@ -40,19 +40,19 @@ table_text state =
     ++ codes " counters " ++ decimal state.counters ++ codes " sticks " ++ decimal state.sticks
 
 -- `1000`, `-1000` or `0`
-unfoldable pub number_text : ℤ → List ℕ
-number_text number = signed_decimal number
+unfoldable pub signed_text : ℤ → List ℕ
+signed_text number = signed_decimal number
 
 -- the same with `+` before a gain
-unfoldable pub change_text : ℤ → List ℕ
-change_text change = (if int_lt (pos 0) change then codes "+" else []) ++ signed_decimal change
+unfoldable pub points_change_text : ℤ → List ℕ
+points_change_text change = (if int_lt (pos 0) change then codes "+" else []) ++ signed_decimal change
 
 abbrev pub changes_text : ByPlayer ℤ → ByPlayer ℤ → List ℕ
 changes_text before after =
-    codes " changes" ++ of_four (λ player. codes " " ++ change_text (of_player after player -ℤ of_player before player))
+    codes " changes" ++ of_four (λ player. codes " " ++ points_change_text (of_player after player -ℤ of_player before player))
 
 abbrev pub points_text : ByPlayer ℤ → List ℕ
-points_text points = codes " points" ++ of_four (λ player. codes " " ++ number_text (of_player points player))
+points_text points = codes " points" ++ of_four (λ player. codes " " ++ signed_text (of_player points player))
 
 -- the state before a deal, what each player's points change, and the points after it
 abbrev pub deal_text : GameState → ByPlayer ℤ → List ℕ

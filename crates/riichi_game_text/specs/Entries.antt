@@ -44,32 +44,32 @@ outcome_said names rules state [] = Err G2
 outcome_said names rules state (first ∷ words) = outcome_by names rules state first words
 
 -- the code of a fault by the rules and by what the table shows
-abbrev pub code_of : OutcomeFault → GameFault
-code_of fault.NobodyWins = G4
-code_of fault.DiscarderWins = G5
-code_of fault.WinnerLiable = G5
-code_of fault.NoSuchWorth = G6
-code_of fault.LiableLimits = G6
-code_of fault.LiableOff = G8
-code_of fault.NagashiOff = G8
-code_of fault.BetOfTooFew = G9
-code_of fault.RiichiNotReady = G10
-code_of fault.StandsSum = G11
-code_of fault.StandsRound = G11
-code_of fault.OverCounters = G12
-code_of fault.OverSticks = G12
-code_of fault.OverPoints = G12
-code_of fault.GameOver = G13
+abbrev pub game_fault_of : OutcomeFault → GameFault
+game_fault_of fault.NobodyWins = G4
+game_fault_of fault.DiscarderWins = G5
+game_fault_of fault.WinnerLiable = G5
+game_fault_of fault.NoSuchWorth = G6
+game_fault_of fault.LiableLimits = G6
+game_fault_of fault.LiableOff = G8
+game_fault_of fault.NagashiOff = G8
+game_fault_of fault.BetOfTooFew = G9
+game_fault_of fault.RiichiNotReady = G10
+game_fault_of fault.StandsSum = G11
+game_fault_of fault.StandsRound = G11
+game_fault_of fault.OverCounters = G12
+game_fault_of fault.OverSticks = G12
+game_fault_of fault.OverPoints = G12
+game_fault_of fault.GameOver = G13
 
 abbrev pub unless_fault : Option OutcomeFault → Outcome → Result Outcome GameFault
 unless_fault None outcome = Ok outcome
-unless_fault (Some fault) outcome = Err (code_of fault)
+unless_fault (Some fault) outcome = Err (game_fault_of fault)
 
 abbrev pub accepted : Progress → TableRules → Result Outcome GameFault → Result Outcome GameFault
 accepted progress rules (Err fault) = Err fault
 accepted progress rules (Ok outcome) = unless_fault (fault_of progress rules outcome) outcome
 
 -- the outcome of a line, or its first fault in the order of the codes
-unfoldable pub entry_of : ByPlayer (List ℕ) → Progress → TableRules → List ℕ → Result Outcome GameFault
-entry_of names progress rules line =
+unfoldable pub outcome_of_entry : ByPlayer (List ℕ) → Progress → TableRules → List ℕ → Result Outcome GameFault
+outcome_of_entry names progress rules line =
     if is_odd line then Err G1 else accepted progress rules (outcome_said names rules progress.state (said_in line))

@@ -3,7 +3,7 @@ use Rattle.std.specs.Prelude.{ℕ, ◌/◌, ◌%◌, ◌==◌, List, [], ◌++�
 use Rattle.riichi_table.specs.Players.{of_player}
 use Rattle.riichi_table.specs.declared.player.ByPlayer.{ByPlayer}
 use Rattle.riichi_places.specs.declared.finals.FinalPoints.{FinalPoints}
-use Rattle.riichi_game_text.specs.Answers.{of_four, number_text}
+use Rattle.riichi_game_text.specs.Answers.{of_four, signed_text}
 
 -- `+26.3`, `-5.3` or `0.0`
 unfoldable pub thousands_text : ℤ → List ℕ
@@ -12,8 +12,8 @@ thousands_text points =
     ++ decimal (unsigned_abs points / 1000) ++ codes "." ++ decimal (unsigned_abs points % 1000 / 100)
 
 -- `final 1 Dee points 41300`
-unfoldable pub place_text : List ℕ → FinalPoints → List ℕ
-place_text name final = codes "final " ++ decimal final.place ++ codes " " ++ name ++ codes " points " ++ number_text final.points
+unfoldable pub place_part_text : List ℕ → FinalPoints → List ℕ
+place_part_text name final = codes "final " ++ decimal final.place ++ codes " " ++ name ++ codes " points " ++ signed_text final.points
 
 -- ` bonus +15.0 penalty 0 total +26.3`
 unfoldable pub total_text : FinalPoints → List ℕ
@@ -21,7 +21,7 @@ total_text final =
     codes " bonus " ++ thousands_text final.bonus ++ codes " penalty " ++ decimal final.penalty ++ codes " total " ++ thousands_text final.total
 
 abbrev pub final_text : List ℕ → FinalPoints → List ℕ
-final_text name final = place_text name final ++ total_text final
+final_text name final = place_part_text name final ++ total_text final
 
 -- the line of a player who has a place, behind the one before it
 unfoldable pub line_if_placed : ℕ → List ℕ → FinalPoints → List ℕ
@@ -31,11 +31,11 @@ line_if_placed place name final = if final.place == place then codes "\n" ++ fin
 unfoldable pub placed_text : ByPlayer (List ℕ) → ByPlayer FinalPoints → ℕ → List ℕ
 placed_text names finals place = of_four (λ player. line_if_placed place (of_player names player) (of_player finals player))
 
-unfoldable pub left_text : ℕ → List ℕ
-left_text sticks = if sticks == 0 then [] else codes "\nleft " ++ decimal sticks
+unfoldable pub sticks_left_text : ℕ → List ℕ
+sticks_left_text sticks = if sticks == 0 then [] else codes "\nleft " ++ decimal sticks
 
 -- `over`, a line for the sticks that lie, and a line for each player, by place and then first seat
 abbrev pub over_text : ByPlayer (List ℕ) → ℕ → ByPlayer FinalPoints → List ℕ
 over_text names sticks finals =
-    codes "over" ++ left_text sticks ++ placed_text names finals 1 ++ placed_text names finals 2
+    codes "over" ++ sticks_left_text sticks ++ placed_text names finals 1 ++ placed_text names finals 2
     ++ placed_text names finals 3 ++ placed_text names finals 4

@@ -13,16 +13,16 @@ part_at key [] = Some (None, [])
 part_at key (word ∷ words) = if bytes_eq word key then word_behind words else Some (None, word ∷ words)
 
 -- nothing stands behind
-abbrev pub alone : {T : Type 0} → T → List (List ℕ) → Option T
-alone value [] = Some value
-alone value (word ∷ words) = None
+abbrev pub if_nothing_follows : {T : Type 0} → T → List (List ℕ) → Option T
+if_nothing_follows value [] = Some value
+if_nothing_follows value (word ∷ words) = None
 
 -- ---- each line, without its first word
 
 -- `riichi NAMES` at the end of a line, or nothing
 abbrev pub last_part : Option (Option (List ℕ) × List (List ℕ)) → Option (Option (List ℕ))
 last_part None = None
-last_part (Some part) = alone part.0 part.1
+last_part (Some part) = if_nothing_follows part.0 part.1
 
 unfoldable pub riichi_at_end : List (List ℕ) → Option (Option (List ℕ))
 riichi_at_end words = last_part (part_at (codes "riichi") words)
@@ -34,8 +34,8 @@ pub record DrawForm : Type 0 where
   pub riichi : Option (List ℕ)
 
 -- the same as it was read
-abbrev pub drawn : read.DrawForm → DrawForm
-drawn draw = record {
+abbrev pub draw_as_read : read.DrawForm → DrawForm
+draw_as_read draw = record {
   ready = option_map (λ names. names.now) draw.ready;
   nagashi = option_map (λ names. names.now) draw.nagashi;
   riichi = option_map (λ names. names.now) draw.riichi;

@@ -5,7 +5,7 @@ use Rattle.riichi_table.specs.declared.player.ByPlayer.{ByPlayer}
 use Rattle.riichi_table.specs.declared.rules.TableRules.{TableRules}
 use Rattle.riichi_game_text.specs.Words.{name_words, rule_words}
 use Rattle.riichi_game_text.specs.Names.{names_said, names_in}
-use Rattle.riichi_game_text.specs.TableWords.{first_value, rules_of, number_if_said}
+use Rattle.riichi_game_text.specs.TableWords.{first_value, table_rules_of, number_if_said}
 use Rattle.riichi_game_text.specs.declared.game_line.GameLine.{GameLine}
 
 -- names, rules, and where the game stands in a tournament
@@ -30,7 +30,7 @@ game_with names rules words = None
 -- what the words behind `game` say, by the rules for hands that they name: each word with `=` is one of the rules, each word without
 -- a name; none where they can't be
 abbrev pub game_of : Option Rules → List (List ℕ) → Option GameSaid
-game_of hand words = game_with (names_said (name_words words)) (rules_of hand (rule_words words)) words
+game_of hand words = game_with (names_said (name_words words)) (table_rules_of hand (rule_words words)) words
 
-abbrev pub hand_word : List (List ℕ) → Option (List ℕ)
-hand_word words = first_value (codes "rules") (rule_words words)
+abbrev pub hand_rules_word : List (List ℕ) → Option (List ℕ)
+hand_rules_word words = first_value (codes "rules") (rule_words words)

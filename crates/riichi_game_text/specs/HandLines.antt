@@ -19,9 +19,9 @@ use Rattle.riichi_game_text.specs.TableWords.{key_of, first_value}
 use Rattle.riichi_game_text.specs.declared.hand_line.Known.{Known}
 
 -- the words of a hand: those with `=` that come next
-abbrev pub entry_words : List (List ℕ) → List (List ℕ)
-entry_words [] = []
-entry_words (word ∷ words) = if has_equals word then word ∷ entry_words words else []
+abbrev pub words_with_equals : List (List ℕ) → List (List ℕ)
+words_with_equals [] = []
+words_with_equals (word ∷ words) = if has_equals word then word ∷ words_with_equals words else []
 
 -- what stands behind them
 abbrev pub behind_entries : List (List ℕ) → List (List ℕ)
@@ -30,9 +30,9 @@ behind_entries (word ∷ words) = if has_equals word then behind_entries words e
 
 -- ---- the line of a win
 
-abbrev pub by_word : By → List ℕ
-by_word Ron = codes " by=ron"
-by_word Tsumo = codes " by=tsumo"
+abbrev pub won_by_word : By → List ℕ
+won_by_word Ron = codes " by=ron"
+won_by_word Tsumo = codes " by=tsumo"
 
 abbrev pub wind_word : Wind → List ℕ
 wind_word East = codes "E"
@@ -46,7 +46,7 @@ riichi_word bets = if bets then codes " riichi=1" else []
 -- how it was won, the winner's seat, the round, and a bet that the hand doesn't name
 unfoldable pub known_words : Known → List ℕ
 known_words known =
-    by_word known.by ++ codes " seat=" ++ wind_word known.seat ++ codes " round=" ++ wind_word known.round ++ riichi_word known.bets
+    won_by_word known.by ++ codes " seat=" ++ wind_word known.seat ++ codes " round=" ++ wind_word known.round ++ riichi_word known.bets
 
 abbrev pub spaced : List ℕ → List ℕ
 spaced word = 32 ∷ word
@@ -57,12 +57,12 @@ hand_line known hand words = codes "win " ++ hand ++ known_words known ++ flat_m
 
 -- ---- the record of the hand
 
-abbrev pub win_in : Job → Result WinParts LineFault
-win_in (Win win) = Ok win
-win_in other = Err (Line H2)
+abbrev pub win_of_job : Job → Result WinParts LineFault
+win_of_job (Win win) = Ok win
+win_of_job other = Err (Line H2)
 
 abbrev pub won_by : Result (Option Job) LineFault → Result WinParts LineFault
-won_by (Ok (Some job)) = win_in job
+won_by (Ok (Some job)) = win_of_job job
 won_by (Ok None) = Err (Line H2)
 won_by (Err fault) = Err fault
 
@@ -86,9 +86,9 @@ abbrev pub unless_known : Bool → Result WinParts LineFault → Result WinParts
 unless_known has read = if has then Err (known_fault read) else read
 
 -- the hand as the line of a win says it, with what the game knows
-unfoldable pub hand_of : Rules → Known → List ℕ → List (List ℕ) → Result WinParts LineFault
-hand_of rules known hand words = unless_known (has_known words) (won_by (outcome_of rules (hand_line known hand words)))
+unfoldable pub hand_said : Rules → Known → List ℕ → List (List ℕ) → Result WinParts LineFault
+hand_said rules known hand words = unless_known (has_known words) (won_by (outcome_of rules (hand_line known hand words)))
 
 -- the value of a word of a hand
 abbrev pub entry_value : List ℕ → List (List ℕ) → Option (List ℕ)
-entry_value key words = first_value key (entry_words words)
+entry_value key words = first_value key (words_with_equals words)

@@ -2,7 +2,7 @@
 use Rattle.std.specs.Prelude.{ℕ, ◌==◌, List, [], ◌∷◌, length, codes, Bool, not, ◌&&◌, ◌||◌, nat_le, nat_lt, Option, None, Some, if◌then◌else◌}
 use Rattle.std.specs.List.{list_all, starts_with}
 use Rattle.std.specs.Str.{bytes_eq, is_utf8}
-use Rattle.riichi_table.specs.Players.{of_player, by_players, of_some, count_of}
+use Rattle.riichi_table.specs.Players.{of_player, by_players, of_some, count_players}
 use Rattle.riichi_table.specs.declared.player.Player.{Player}
 use Rattle.riichi_table.specs.declared.player.Player.TheVariants.{First, Second, Third, Fourth}
 use Rattle.riichi_table.specs.declared.player.ByPlayer.{ByPlayer}
@@ -10,13 +10,13 @@ use Rattle.riichi_game_text.specs.Words.{begins_note}
 use Rattle.riichi_game_text.specs.declared.name.Names.{Names}
 
 -- no space, comma, `=`, `:` and control byte
-abbrev pub is_name_byte : ℕ → Bool
-is_name_byte byte = nat_lt 32 byte && not (byte == 44) && not (byte == 58) && not (byte == 61) && not (byte == 127)
+abbrev pub is_player_name_byte : ℕ → Bool
+is_player_name_byte byte = nat_lt 32 byte && not (byte == 44) && not (byte == 58) && not (byte == 61) && not (byte == 127)
 
 -- 1 to 32 bytes of UTF-8, of which the first is no `#`
-unfoldable pub is_name : List ℕ → Bool
-is_name word =
-    nat_le 1 (length word) && nat_le (length word) 32 && not (begins_note word) && list_all is_name_byte word && is_utf8 word
+unfoldable pub is_player_name : List ℕ → Bool
+is_player_name word =
+    nat_le 1 (length word) && nat_le (length word) 32 && not (begins_note word) && list_all is_player_name_byte word && is_utf8 word
 
 -- the texts of the four
 abbrev pub names_in : Names → ByPlayer (List ℕ)
@@ -31,7 +31,7 @@ have_equals names =
 
 abbrev pub are_names : ByPlayer (List ℕ) → Bool
 are_names names =
-    is_name names.first && is_name names.second && is_name names.third && is_name names.fourth && not (have_equals names)
+    is_player_name names.first && is_player_name names.second && is_player_name names.third && is_player_name names.fourth && not (have_equals names)
 
 -- four names that differ
 unfoldable pub names_of : ByPlayer (List ℕ) → Option (ByPlayer (List ℕ))
@@ -41,12 +41,12 @@ abbrev pub four : {T : Type 0} → T → T → T → T → ByPlayer T
 four first second third fourth = record { first = first; second = second; third = third; fourth = fourth }
 
 -- without names the players are numbered
-abbrev pub numbered : ByPlayer (List ℕ)
-numbered = four (codes "1") (codes "2") (codes "3") (codes "4")
+abbrev pub numbered_names : ByPlayer (List ℕ)
+numbered_names = four (codes "1") (codes "2") (codes "3") (codes "4")
 
 -- four names or none
 abbrev pub names_said : List (List ℕ) → Option (ByPlayer (List ℕ))
-names_said [] = Some numbered
+names_said [] = Some numbered_names
 names_said (first ∷ second ∷ third ∷ fourth ∷ []) = names_of (four first second third fourth)
 names_said others = None
 
@@ -71,5 +71,5 @@ is_begun names text player = starts_with (λ one other. one == other) (of_player
 unfoldable pub player_named : ByPlayer (List ℕ) → List ℕ → Option Player
 player_named names text =
     if of_some (is_whole names text) then first_player (is_whole names text)
-    else if count_of (is_begun names text) == 1 then first_player (is_begun names text)
+    else if count_players (is_begun names text) == 1 then first_player (is_begun names text)
     else None

@@ -5,7 +5,7 @@ use Rattle.riichi_table.specs.declared.player.Player.{Player}
 use Rattle.riichi_table.specs.declared.player.ByPlayer.{ByPlayer}
 use Rattle.riichi_table.specs.declared.outcome.Outcome.{Outcome}
 use Rattle.riichi_table.specs.declared.outcome.Outcome.TheVariants.{Draw, Abort, Chombo, Penalty, End}
-use Rattle.riichi_game_text.specs.Numbers.{number_of}
+use Rattle.riichi_game_text.specs.Numbers.{number_in}
 use Rattle.riichi_game_text.specs.Names.{player_named}
 use Rattle.riichi_game_text.specs.Listed.{players_if_said}
 use Rattle.riichi_game_text.specs.Forms.{DrawForm, draw_form, riichi_at_end, name_form}
@@ -62,7 +62,7 @@ penalty_with names name None = Err G4
 penalty_with names name (Some points) = penalty_by (player_named names name) points
 
 abbrev pub penalty_of : ByPlayer (List ℕ) → List (List ℕ) → Result Outcome GameFault
-penalty_of names (name ∷ points ∷ []) = penalty_with names name (points_if (number_of points))
+penalty_of names (name ∷ points ∷ []) = penalty_with names name (points_if (number_in points))
 penalty_of names others = Err G4
 
 -- `end`

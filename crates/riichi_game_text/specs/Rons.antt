@@ -15,7 +15,7 @@ use Rattle.riichi_game_text.specs.Listed.{players_if_said}
 use Rattle.riichi_game_text.specs.Forms.{riichi_at_end}
 use Rattle.riichi_game_text.specs.TableWords.{first_value}
 use Rattle.riichi_game_text.specs.Wins.{SaidWin, said_win, win_at}
-use Rattle.riichi_game_text.specs.Won.{riichi_said, denies_bet, liable_named, bets_with, win_of}
+use Rattle.riichi_game_text.specs.Won.{riichi_said, denies_bet, liable_named, bets_with, win_said}
 use Rattle.riichi_game_text.specs.declared.fault.GameFault.{GameFault}
 use Rattle.riichi_game_text.specs.declared.fault.GameFault.TheVariants.{G4, G5, G6}
 use Rattle.riichi_game_text.specs.declared.value.WrittenValue.{WrittenValue}
@@ -144,7 +144,7 @@ tiles_differ form =
     differ first second || differ first third || differ second third
 
 abbrev pub won_if_said : TableRules → GameState → ByPlayer Bool → Option NamedWin → Option SaidWin → Option (Result Win GameFault)
-won_if_said rules state riichi (Some named) (Some win) = Some (win_of rules state by.Ron named.winner named.liable (of_player riichi named.winner) win)
+won_if_said rules state riichi (Some named) (Some win) = Some (win_said rules state by.Ron named.winner named.liable (of_player riichi named.winner) win)
 won_if_said rules state riichi named win = None
 
 abbrev pub is_no_value : Option (Result Win GameFault) → Bool

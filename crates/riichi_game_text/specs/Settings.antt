@@ -22,7 +22,7 @@ use Rattle.riichi_table.specs.declared.rules.LeftSticks.{LeftSticks}
 use Rattle.riichi_table.specs.declared.rules.LeftSticks.TheVariants as left
 use Rattle.riichi_table.specs.declared.rules.ChomboCost.{ChomboCost}
 use Rattle.riichi_table.specs.declared.rules.ChomboCost.TheVariants as cost
-use Rattle.riichi_game_text.specs.Numbers.{number_of, at_least_one, thousands_of}
+use Rattle.riichi_game_text.specs.Numbers.{number_in, at_least_one, thousands_of}
 use Rattle.riichi_game_text.specs.declared.setting.Setting.{Setting}
 use Rattle.riichi_game_text.specs.declared.setting.Setting.TheVariants as setting
 
@@ -84,11 +84,11 @@ left_named value = value_beside ((codes "first", left.First) ∷ (codes "lost", 
 
 -- `off`, or points
 abbrev pub extra_of : List ℕ → Option (Option ℕ)
-extra_of value = if bytes_eq value (codes "off") then Some None else option_map (λ points. Some points) (number_of value)
+extra_of value = if bytes_eq value (codes "off") then Some None else option_map (λ points. Some points) (number_in value)
 
 -- `mangan`, or points
 abbrev pub cost_of : List ℕ → Option ChomboCost
-cost_of value = if bytes_eq value (codes "mangan") then Some cost.Mangan else option_map cost.Points (number_of value)
+cost_of value = if bytes_eq value (codes "mangan") then Some cost.Mangan else option_map cost.Points (number_in value)
 
 -- four thousands with commas between them
 abbrev pub before_comma : Option (List ℕ × List ℕ) → Option ℤ
@@ -106,8 +106,8 @@ place_bonuses first second third fourth = None
 abbrev pub cut_at_comma : List ℕ → Option (List ℕ × List ℕ)
 cut_at_comma text = cut_at 44 text
 
-unfoldable pub uma_of : List ℕ → Option (ByPlace ℤ)
-uma_of value =
+unfoldable pub uma_named : List ℕ → Option (ByPlace ℤ)
+uma_named value =
     let second = behind_comma (cut_at_comma value) in
     let third = behind_comma (cut_at_comma second) in
     let fourth = behind_comma (cut_at_comma third) in
@@ -119,9 +119,9 @@ uma_of value =
 abbrev pub changed : Setting → List ℕ → TableRules → Option TableRules
 changed setting.Table value rules = Some rules
 changed setting.Rules value rules = Some rules
-changed setting.Start value rules = option_map (λ points. record rules { start = points }) (number_of value)
-changed setting.Return value rules = option_map (λ points. record rules { returns = points }) (number_of value)
-changed setting.Uma value rules = option_map (λ uma. record rules { uma = uma }) (uma_of value)
+changed setting.Start value rules = option_map (λ points. record rules { start = points }) (number_in value)
+changed setting.Return value rules = option_map (λ points. record rules { returns = points }) (number_in value)
+changed setting.Uma value rules = option_map (λ uma. record rules { uma = uma }) (uma_named value)
 changed setting.Ties value rules = option_map (λ ties. record rules { ties = ties }) (ties_named value)
 changed setting.Ron value rules = option_map (λ ron. record rules { ron = ron }) (ron_named value)
 changed setting.Counters value rules = option_map (λ counters. record rules { counters = counters }) (counters_named value)
@@ -135,5 +135,5 @@ changed setting.Bust value rules = option_map (λ on. record rules { bust = on }
 changed setting.Stop value rules = option_map (λ on. record rules { stop = on }) (on_or_off value)
 changed setting.Left value rules = option_map (λ left. record rules { left = left }) (left_named value)
 changed setting.Chombo value rules = option_map (λ cost. record rules { chombo = cost }) (cost_of value)
-changed setting.Session value rules = option_map (λ number. rules) (at_least_one (number_of value))
-changed setting.At value rules = option_map (λ number. rules) (at_least_one (number_of value))
+changed setting.Session value rules = option_map (λ number. rules) (at_least_one (number_in value))
+changed setting.At value rules = option_map (λ number. rules) (at_least_one (number_in value))

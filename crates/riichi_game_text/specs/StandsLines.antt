@@ -13,7 +13,7 @@ use Rattle.riichi_table.specs.declared.rules.TableRules.{TableRules}
 use Rattle.riichi_table.specs.declared.outcome.Outcome.{Outcome}
 use Rattle.riichi_table.specs.declared.outcome.Outcome.TheVariants.{Stands}
 use Rattle.riichi_game.specs.Ends.{has_round}
-use Rattle.riichi_game_text.specs.Numbers.{digits_of, number_of}
+use Rattle.riichi_game_text.specs.Numbers.{digits_of, number_in}
 use Rattle.riichi_game_text.specs.declared.fault.GameFault.{GameFault}
 use Rattle.riichi_game_text.specs.declared.fault.GameFault.TheVariants.{G4, G11, G12}
 use Rattle.riichi_game_text.specs.declared.stands.StandsForm.{StandsForm}
@@ -35,28 +35,28 @@ abbrev pub hundreds : Option ℕ → Option ℕ
 hundreds None = None
 hundreds (Some points) = if points % 100 == 0 then Some points else None
 
-unfoldable pub held_of : List ℕ → Option ℤ
-held_of [] = None
-held_of (byte ∷ bytes) =
+unfoldable pub points_held : List ℕ → Option ℤ
+points_held [] = None
+points_held (byte ∷ bytes) =
     if byte == 45 then option_map (λ points. neg_ℤ (pos points)) (hundreds (digits_of 9 bytes))
     else option_map pos (hundreds (digits_of 9 (byte ∷ bytes)))
 
 -- `ROUND DEALER`
-abbrev pub placed : Option Wind → Option Player → List (List ℕ) → Option ((Wind × Player) × List (List ℕ))
-placed (Some round) (Some dealer) words = Some ((round, dealer), words)
-placed round dealer words = None
+abbrev pub round_and_dealer : Option Wind → Option Player → List (List ℕ) → Option ((Wind × Player) × List (List ℕ))
+round_and_dealer (Some round) (Some dealer) words = Some ((round, dealer), words)
+round_and_dealer round dealer words = None
 
 unfoldable pub place_at : List (List ℕ) → Option ((Wind × Player) × List (List ℕ))
-place_at (round ∷ dealer ∷ words) = placed (round_named round) (dealer_numbered (number_of dealer)) words
+place_at (round ∷ dealer ∷ words) = round_and_dealer (round_named round) (dealer_numbered (number_in dealer)) words
 place_at others = None
 
 -- a key and its number
-abbrev pub with_number : Option ℕ → List (List ℕ) → Option (ℕ × List (List ℕ))
-with_number None words = None
-with_number (Some number) words = Some (number, words)
+abbrev pub number_before : Option ℕ → List (List ℕ) → Option (ℕ × List (List ℕ))
+number_before None words = None
+number_before (Some number) words = Some (number, words)
 
 unfoldable pub number_at : List ℕ → List (List ℕ) → Option (ℕ × List (List ℕ))
-number_at key (word ∷ number ∷ words) = if bytes_eq word key then with_number (number_of number) words else None
+number_at key (word ∷ number ∷ words) = if bytes_eq word key then number_before (number_in number) words else None
 number_at key others = None
 
 -- `points N N N N`
@@ -66,7 +66,7 @@ all_held first second third fourth = None
 
 unfoldable pub points_said : List (List ℕ) → Option (ByPlayer ℤ)
 points_said (word ∷ first ∷ second ∷ third ∷ fourth ∷ []) =
-    if bytes_eq word (codes "points") then all_held (held_of first) (held_of second) (held_of third) (held_of fourth) else None
+    if bytes_eq word (codes "points") then all_held (points_held first) (points_held second) (points_held third) (points_held fourth) else None
 points_said others = None
 
 -- ---- `ROUND DEALER counters N sticks N points N N N N`
@@ -93,12 +93,12 @@ stands_form words = behind_place (place_at words)
 -- ---- the state
 
 -- the points and 1000 for each stick are four times the start
-abbrev pub adds_up : TableRules → StandsForm → Bool
-adds_up rules form = int_eq (sum_over_players (of_player form.points) +ℤ pos (1000 * form.sticks)) (pos (4 * rules.start))
+abbrev pub points_add_up : TableRules → StandsForm → Bool
+points_add_up rules form = int_eq (sum_over_players (of_player form.points) +ℤ pos (1000 * form.sticks)) (pos (4 * rules.start))
 
 -- so many counters or sticks that no state has them
 abbrev pub over_fault : TableRules → StandsForm → GameFault
-over_fault rules form = if adds_up rules form && has_round rules form.round then G12 else G11
+over_fault rules form = if points_add_up rules form && has_round rules form.round then G12 else G11
 
 abbrev pub stands_by : TableRules → StandsForm → Result Outcome GameFault
 stands_by rules form =

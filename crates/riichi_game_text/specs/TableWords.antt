@@ -7,7 +7,7 @@ use Rattle.riichi_hand.specs.Entries.{cut_at_equals}
 use Rattle.riichi_table.specs.Tables.{club}
 use Rattle.riichi_table.specs.RulesFaults.{rules_fault}
 use Rattle.riichi_table.specs.declared.rules.TableRules.{TableRules}
-use Rattle.riichi_game_text.specs.Numbers.{number_of, at_least_one}
+use Rattle.riichi_game_text.specs.Numbers.{number_in, at_least_one}
 use Rattle.riichi_game_text.specs.Settings.{setting_named, preset_named, changed}
 use Rattle.riichi_game_text.specs.declared.setting.Setting.{Setting}
 
@@ -24,13 +24,13 @@ behind (Some cut) = cut.1
 abbrev pub key_of : List ℕ → List ℕ
 key_of word = before (cut_at_equals word)
 
-abbrev pub value_of : List ℕ → List ℕ
-value_of word = behind (cut_at_equals word)
+abbrev pub value_of_word : List ℕ → List ℕ
+value_of_word word = behind (cut_at_equals word)
 
 -- the value of the first word with a key
 abbrev pub first_value : List ℕ → List (List ℕ) → Option (List ℕ)
 first_value key [] = None
-first_value key (word ∷ words) = if bytes_eq (key_of word) key then Some (value_of word) else first_value key words
+first_value key (word ∷ words) = if bytes_eq (key_of word) key then Some (value_of_word word) else first_value key words
 
 -- a word stands twice
 abbrev pub has_twice : List (List ℕ) → Bool
@@ -65,13 +65,13 @@ change_named None value rules = None
 change_named (Some setting) value rules = changed setting value rules
 
 -- each word changes one of the rules
-abbrev pub change_by : List ℕ → Option TableRules → Option TableRules
-change_by word None = None
-change_by word (Some rules) = change_named (setting_named (key_of word)) (value_of word) rules
+abbrev pub change_by_word : List ℕ → Option TableRules → Option TableRules
+change_by_word word None = None
+change_by_word word (Some rules) = change_named (setting_named (key_of word)) (value_of_word word) rules
 
 abbrev pub change_by_all : List (List ℕ) → Option TableRules → Option TableRules
 change_by_all [] rules = rules
-change_by_all (word ∷ words) rules = change_by_all words (change_by word rules)
+change_by_all (word ∷ words) rules = change_by_all words (change_by_word word rules)
 
 -- rules that a table may choose
 abbrev pub if_faultless : Option TableRules → Option TableRules
@@ -79,10 +79,10 @@ if_faultless None = None
 if_faultless (Some rules) = if is_some (rules_fault rules) then None else Some rules
 
 -- what the words say, by the rules for hands: none where a word stands twice, is no word or has a value that can't be
-unfoldable pub rules_of : Option Rules → List (List ℕ) → Option TableRules
-rules_of hand words = if has_twice words then None else if_faultless (change_by_all words (with_hand hand (preset_of words)))
+unfoldable pub table_rules_of : Option Rules → List (List ℕ) → Option TableRules
+table_rules_of hand words = if has_twice words then None else if_faultless (change_by_all words (with_hand hand (preset_of words)))
 
 -- the number of a word of a tournament, where it is there
 abbrev pub number_if_said : Option (List ℕ) → Option ℕ
 number_if_said None = None
-number_if_said (Some value) = at_least_one (number_of value)
+number_if_said (Some value) = at_least_one (number_in value)

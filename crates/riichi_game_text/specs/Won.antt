@@ -3,8 +3,8 @@ use Rattle.std.specs.Prelude.{ℕ, List, [], ◌∷◌, codes, Bool, false, not,
 use Rattle.std.specs.Str.{bytes_eq}
 use Rattle.riichi_hand.specs.declared.win.By.{By}
 use Rattle.riichi_hand.specs.declared.win.By.TheVariants as by
-use Rattle.riichi_table.specs.Players.{of_player, with_player, is_same, seat_of}
-use Rattle.riichi_table.specs.Worths.{limits_of}
+use Rattle.riichi_table.specs.Players.{of_player, with_player, is_same_player, seat_of}
+use Rattle.riichi_table.specs.Worths.{limits_of_worth}
 use Rattle.riichi_table.specs.declared.player.Player.{Player}
 use Rattle.riichi_table.specs.declared.player.ByPlayer.{ByPlayer}
 use Rattle.riichi_table.specs.declared.rules.TableRules.{TableRules}
@@ -62,7 +62,7 @@ said_limits (Some liable) = liable.limits
 abbrev pub liable_win : Player → ValueWorth → Option ℕ → Result Win GameFault
 liable_win player value None = Err G6
 liable_win player value (Some limits) =
-    if nat_le 1 limits && nat_le limits (limits_of value.worth)
+    if nat_le 1 limits && nat_le limits (limits_of_worth value.worth)
     then Ok (record { worth = value.worth; liable = Some (record { player = player; limits = limits }) })
     else Err G6
 
@@ -74,8 +74,8 @@ abbrev pub win_by : Option Player → Option ℕ → Result ValueWorth GameFault
 win_by liable said (Err fault) = Err fault
 win_by liable said (Ok value) = win_with liable said value
 
-unfoldable pub win_of : TableRules → GameState → By → Player → Option Player → Bool → SaidWin → Result Win GameFault
-win_of rules state by winner liable bets win =
+unfoldable pub win_said : TableRules → GameState → By → Player → Option Player → Bool → SaidWin → Result Win GameFault
+win_said rules state by winner liable bets win =
     win_by liable (said_limits win.liable) (value_worth rules.hand (known_of state by winner bets win) win.value win.hand win.words)
 
 -- ---- a win by self-draw: `WINNER VALUE [liable NAME] [riichi NAMES]`
@@ -100,14 +100,14 @@ abbrev pub liable_named : ByPlayer (List ℕ) → Option SaidLiable → Option (
 liable_named names None = Some None
 liable_named names (Some liable) = liable_found (player_named names liable.name)
 
-abbrev pub is_liable : Option Player → Player → Bool
-is_liable None winner = false
-is_liable (Some liable) winner = is_same liable winner
+abbrev pub is_liable_winner : Option Player → Player → Bool
+is_liable_winner None winner = false
+is_liable_winner (Some liable) winner = is_same_player liable winner
 
 -- the winner is liable, or bets by a hand without riichi
 abbrev pub is_wrong : Player → Option Player → ByPlayer Bool → SaidWin → Bool
 is_wrong winner liable riichi win =
-    is_liable liable winner || (of_player riichi winner && denies_bet (riichi_said win.value win.words))
+    is_liable_winner liable winner || (of_player riichi winner && denies_bet (riichi_said win.value win.words))
 
 -- who bets by the list, and by the winner's hand
 abbrev pub bets_with : ByPlayer Bool → Player → SaidWin → ByPlayer Bool
@@ -121,7 +121,7 @@ tsumo_won winner riichi (Ok win) = Ok (Tsumo winner win riichi)
 abbrev pub tsumo_by : TableRules → GameState → SaidWin → Option Player → Option (Option Player) → Option (ByPlayer Bool) → Result Outcome GameFault
 tsumo_by rules state win (Some winner) (Some liable) (Some riichi) =
     if is_wrong winner liable riichi win then Err G5
-    else tsumo_won winner (bets_with riichi winner win) (win_of rules state by.Tsumo winner liable (of_player riichi winner) win)
+    else tsumo_won winner (bets_with riichi winner win) (win_said rules state by.Tsumo winner liable (of_player riichi winner) win)
 tsumo_by rules state win winner liable riichi = Err G5
 
 abbrev pub tsumo_said : ByPlayer (List ℕ) → TableRules → GameState → Option (SaidWin × Option (List ℕ)) → Result Outcome GameFault

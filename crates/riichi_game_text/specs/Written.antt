@@ -17,11 +17,11 @@ use Rattle.riichi_score.specs.declared.answer.WinAnswer.{WinAnswer}
 use Rattle.riichi_score.specs.declared.answer.WinAnswer.TheVariants as answer
 use Rattle.riichi_table.specs.declared.worth.Worth.{Worth}
 use Rattle.riichi_game.specs.Hands.{worth_of_score}
-use Rattle.riichi_game.specs.Values.{counted_worth, limit_worth}
+use Rattle.riichi_game.specs.Values.{worth_of_han_and_fu, worth_of_limit}
 use Rattle.riichi_game.specs.declared.values.LimitHand.{LimitHand}
 use Rattle.riichi_game.specs.declared.values.LimitHand.TheVariants as limit
-use Rattle.riichi_game_text.specs.Numbers.{number_of}
-use Rattle.riichi_game_text.specs.HandLines.{hand_of}
+use Rattle.riichi_game_text.specs.Numbers.{number_in}
+use Rattle.riichi_game_text.specs.HandLines.{hand_said}
 use Rattle.riichi_game_text.specs.declared.hand_line.Known.{Known}
 use Rattle.riichi_game_text.specs.declared.fault.GameFault.{GameFault}
 use Rattle.riichi_game_text.specs.declared.fault.GameFault.TheVariants.{G6, G7}
@@ -50,9 +50,9 @@ abbrev pub small : ℕ → ℕ
 small number = min number 255
 
 -- `HAN.FU`
-abbrev pub counted : Option ℕ → Option ℕ → Option WrittenValue
-counted (Some han) (Some fu) = Some (written.Counted (small han) (small fu))
-counted han fu = None
+abbrev pub counted_named : Option ℕ → Option ℕ → Option WrittenValue
+counted_named (Some han) (Some fu) = Some (written.Counted (small han) (small fu))
+counted_named han fu = None
 
 -- `yakuman:LIMITS`
 abbrev pub limits_named : Option ℕ → Option WrittenValue
@@ -62,11 +62,11 @@ limits_named (Some limits) = Some (written.Limit (limit.Yakuman (small limits)))
 -- the word of a hand, where it isn't one of the others
 abbrev pub hand_or_counted : Option (List ℕ × List ℕ) → Option WrittenValue
 hand_or_counted None = Some written.Hand
-hand_or_counted (Some cut) = counted (number_of cut.0) (number_of cut.1)
+hand_or_counted (Some cut) = counted_named (number_in cut.0) (number_in cut.1)
 
 abbrev pub behind_colon : List ℕ → Option (List ℕ × List ℕ) → Option WrittenValue
 behind_colon word None = hand_or_counted (cut_at 46 word)
-behind_colon word (Some cut) = if bytes_eq cut.0 (codes "yakuman") then limits_named (number_of cut.1) else hand_or_counted (cut_at 46 word)
+behind_colon word (Some cut) = if bytes_eq cut.0 (codes "yakuman") then limits_named (number_in cut.1) else hand_or_counted (cut_at 46 word)
 
 abbrev pub unless_limit : List ℕ → Option LimitHand → Option WrittenValue
 unless_limit word (Some hand) = Some (written.Limit hand)
@@ -84,7 +84,7 @@ for_one (Some worth) = Ok (record { worth = worth; limits = Some 1 })
 
 -- han are 99 at most
 abbrev pub counted_value : Rules → By → ℕ → ℕ → Result ValueWorth GameFault
-counted_value rules by han fu = if nat_le han 99 then for_one (counted_worth rules by han fu) else Err G6
+counted_value rules by han fu = if nat_le han 99 then for_one (worth_of_han_and_fu rules by han fu) else Err G6
 
 -- three dragons are one limit; four winds are one, or two where the rules double them
 abbrev pub own_limits : Rules → ℕ → Option ℕ
@@ -96,17 +96,17 @@ own_limits rules yaku =
 abbrev pub liable_limits : Rules → Score → Option ℕ
 liable_limits rules score = if is_yakuman score.yaku then own_limits rules score.yaku else None
 
-abbrev pub worth_of_answer : Rules → WinAnswer → Result ValueWorth GameFault
-worth_of_answer rules (answer.Won score) = Ok (record { worth = worth_of_score score; limits = liable_limits rules score })
-worth_of_answer rules answer.NoYaku = Err (G7 fault.NoYaku)
-worth_of_answer rules answer.NoWin = Err (G7 fault.NoWin)
+abbrev pub value_worth_of_answer : Rules → WinAnswer → Result ValueWorth GameFault
+value_worth_of_answer rules (answer.Won score) = Ok (record { worth = worth_of_score score; limits = liable_limits rules score })
+value_worth_of_answer rules answer.NoYaku = Err (G7 fault.NoYaku)
+value_worth_of_answer rules answer.NoWin = Err (G7 fault.NoWin)
 
 abbrev pub worth_of_read : Rules → Result WinParts LineFault → Result ValueWorth GameFault
-worth_of_read rules (Ok win) = worth_of_answer rules (best_of win)
+worth_of_read rules (Ok win) = value_worth_of_answer rules (best_of win)
 worth_of_read rules (Err words) = Err (G7 (fault.Words words))
 
 -- by the rules for hands and what the game knows; of a hand with its word and the words behind it
 abbrev pub value_worth : Rules → Known → WrittenValue → List ℕ → List (List ℕ) → Result ValueWorth GameFault
 value_worth rules known (written.Counted han fu) hand words = counted_value rules known.by han fu
-value_worth rules known (written.Limit named) hand words = for_one (limit_worth rules named)
-value_worth rules known written.Hand hand words = worth_of_read rules (hand_of rules known hand words)
+value_worth rules known (written.Limit named) hand words = for_one (worth_of_limit rules named)
+value_worth rules known written.Hand hand words = worth_of_read rules (hand_said rules known hand words)

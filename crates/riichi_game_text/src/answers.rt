@@ -107,10 +107,15 @@ fn push_table(text: &mut AnswerText, state: &GameState)
 }
 
 /// Writes what a player's points change, behind a space.
-fn push_change(text: &mut AnswerText, before: &ByPlayer<i32>, after: &ByPlayer<i32>, player: Player)
+fn push_points_change(
+    text: &mut AnswerText,
+    before: &ByPlayer<i32>,
+    after: &ByPlayer<i32>,
+    player: Player,
+)
     requires { array_string_len text.old + 1 + MOST_CHANGE ≤ ANSWER_ROOM }
     ensures bytes { text.new.bytes ≡ text.old.bytes ++ (codes " "
-        ++ spec.change_text (of_player after.now player -ℤ of_player before.now player)) }
+        ++ spec.points_change_text (of_player after.now player -ℤ of_player before.now player)) }
     ensures len { array_string_len text.new ≤ array_string_len text.old + 1 + MOST_CHANGE }
 {
     text.push_str(" ");
@@ -121,10 +126,10 @@ fn push_change(text: &mut AnswerText, before: &ByPlayer<i32>, after: &ByPlayer<i
 }
 
 /// Writes a change with its sign.
-#[tactic(auto, unfolding(crate::specs::Answers::change_text))]
+#[tactic(auto, unfolding(crate::specs::Answers::points_change_text))]
 fn push_signed(text: &mut AnswerText, change: i64)
     requires { array_string_len text.old + MOST_CHANGE ≤ ANSWER_ROOM }
-    ensures bytes { text.new.bytes ≡ text.old.bytes ++ spec.change_text change }
+    ensures bytes { text.new.bytes ≡ text.old.bytes ++ spec.points_change_text change }
     ensures len { array_string_len text.new ≤ array_string_len text.old + MOST_CHANGE }
 {
     if change > 0 {
@@ -139,18 +144,18 @@ fn push_changes(text: &mut AnswerText, before: &ByPlayer<i32>, after: &ByPlayer<
     ensures len { array_string_len text.new ≤ array_string_len text.old + MOST_CHANGES }
 {
     text.push_str(" changes");
-    push_change(text, before, after, Player::First);
-    push_change(text, before, after, Player::Second);
-    push_change(text, before, after, Player::Third);
-    push_change(text, before, after, Player::Fourth);
+    push_points_change(text, before, after, Player::First);
+    push_points_change(text, before, after, Player::Second);
+    push_points_change(text, before, after, Player::Third);
+    push_points_change(text, before, after, Player::Fourth);
 }
 
 /// Writes a player's points behind a space.
-#[tactic(auto, unfolding(crate::specs::Answers::number_text))]
+#[tactic(auto, unfolding(crate::specs::Answers::signed_text))]
 fn push_held(text: &mut AnswerText, points: &ByPlayer<i32>, player: Player)
     requires { array_string_len text.old + 1 + MOST_POINTS ≤ ANSWER_ROOM }
     ensures bytes { text.new.bytes
-        ≡ text.old.bytes ++ (codes " " ++ spec.number_text (of_player points.now player)) }
+        ≡ text.old.bytes ++ (codes " " ++ spec.signed_text (of_player points.now player)) }
     ensures len { array_string_len text.new ≤ array_string_len text.old + 1 + MOST_POINTS }
 {
     text.push_str(" ");

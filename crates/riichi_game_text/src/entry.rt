@@ -45,7 +45,7 @@ pub fn read_entry(
     let outcome = read_outcome(names, rules, &progress.state, line)?;
     match progress.after(rules, &outcome) {
         Ok(after) => Ok(AcceptedLine { outcome, after }),
-        Err(fault) => Err(code_of(fault)),
+        Err(fault) => Err(game_fault_of(fault)),
     }
 }
 
@@ -118,7 +118,7 @@ fn outcome_by(
 }
 
 /// The code of a fault by the rules and by what the table shows.
-fn code_of(fault: OutcomeFault) -> GameFault
+fn game_fault_of(fault: OutcomeFault) -> GameFault
     ensures { result ≡ spec.code_of fault }
 {
     match fault {

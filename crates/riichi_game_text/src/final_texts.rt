@@ -2,7 +2,7 @@
 ghost use Rattle.std.specs.Prelude.{◌≡◌, ◌+◌, ◌*◌, ◌≤◌, ◌++◌};
 ghost use Rattle.arrayvec.specs.ArrayString.{array_string_len};
 ghost use Rattle.riichi_game_text.specs.Names.{names_in};
-ghost use Rattle.riichi_game_text.specs.Answers.{number_text};
+ghost use Rattle.riichi_game_text.specs.Answers.{signed_text};
 ghost use Rattle.riichi_game_text.specs.FinalTexts as spec;
 
 use crate::name::{MOST_NAME, Name, Names};
@@ -48,17 +48,17 @@ pub fn push_over(text: &mut AnswerText, names: &Names, sticks: u8, finals: &ByPl
     ensures len { array_string_len text.new ≤ array_string_len text.old + MOST_OVER }
 {
     text.push_str("over");
-    push_left(text, sticks);
+    push_sticks_left(text, sticks);
     push_placed(text, names, finals, 1);
     push_placed(text, names, finals, 2);
     push_placed(text, names, finals, 3);
     push_placed(text, names, finals, 4);
 }
 
-#[tactic(auto, unfolding(crate::specs::FinalTexts::left_text))]
-fn push_left(text: &mut AnswerText, sticks: u8)
+#[tactic(auto, unfolding(crate::specs::FinalTexts::sticks_left_text))]
+fn push_sticks_left(text: &mut AnswerText, sticks: u8)
     requires { array_string_len text.old + MOST_LEFT ≤ ANSWER_ROOM }
-    ensures bytes { text.new.bytes ≡ text.old.bytes ++ spec.left_text sticks }
+    ensures bytes { text.new.bytes ≡ text.old.bytes ++ spec.sticks_left_text sticks }
     ensures len { array_string_len text.new ≤ array_string_len text.old + MOST_LEFT }
 {
     if sticks > 0 {
@@ -100,15 +100,15 @@ fn push_final(text: &mut AnswerText, name: &Name, of: &FinalPoints)
     ensures bytes { text.new.bytes ≡ text.old.bytes ++ spec.final_text name.now.bytes of.now }
     ensures len { array_string_len text.new ≤ array_string_len text.old + MOST_FINAL }
 {
-    push_place(text, name, of);
+    push_place_part(text, name, of);
     push_total(text, of);
 }
 
 /// Writes the place, the name and the points.
-#[tactic(auto, unfolding(crate::specs::FinalTexts::place_text))]
-fn push_place(text: &mut AnswerText, name: &Name, of: &FinalPoints)
+#[tactic(auto, unfolding(crate::specs::FinalTexts::place_part_text))]
+fn push_place_part(text: &mut AnswerText, name: &Name, of: &FinalPoints)
     requires { array_string_len text.old + MOST_PLACE ≤ ANSWER_ROOM }
-    ensures bytes { text.new.bytes ≡ text.old.bytes ++ spec.place_text name.now.bytes of.now }
+    ensures bytes { text.new.bytes ≡ text.old.bytes ++ spec.place_part_text name.now.bytes of.now }
     ensures len { array_string_len text.new ≤ array_string_len text.old + MOST_PLACE }
 {
     text.push_str("final ");
@@ -119,10 +119,10 @@ fn push_place(text: &mut AnswerText, name: &Name, of: &FinalPoints)
     push_points(text, of.points);
 }
 
-#[tactic(auto, unfolding(crate::specs::Answers::number_text))]
+#[tactic(auto, unfolding(crate::specs::Answers::signed_text))]
 fn push_points(text: &mut AnswerText, points: i64)
     requires { array_string_len text.old + MOST_I64 ≤ ANSWER_ROOM }
-    ensures bytes { text.new.bytes ≡ text.old.bytes ++ number_text points }
+    ensures bytes { text.new.bytes ≡ text.old.bytes ++ signed_text points }
     ensures len { array_string_len text.new ≤ array_string_len text.old + MOST_I64 }
 {
     push_number(text, points);

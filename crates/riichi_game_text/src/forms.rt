@@ -48,7 +48,7 @@ pub(crate) fn riichi_at_end(text: &[u8]) -> Option<Option<&[u8]>>
 #[tactic(auto, unfolding(crate::specs::Forms::draw_form))]
 pub(crate) fn draw_form(text: &[u8]) -> Option<DrawForm<'_>>
     ensures { let form = spec.draw_form (said_in text.now) in
-        MatchOption result (form ≡ None) (λ draw. form ≡ Some (spec.drawn draw)) }
+        MatchOption result (form ≡ None) (λ draw. form ≡ Some (spec.draw_as_read draw)) }
 {
     let (ready, rest) = part_at(b"ready", text)?;
     let (nagashi, rest) = part_at(b"nagashi", rest)?;

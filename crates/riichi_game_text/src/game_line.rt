@@ -25,7 +25,7 @@ pub struct GameLine {
 /// four names or none.
 pub fn read_game(given: Rules, text: &[u8]) -> Option<GameLine>
     ensures { let words = said_in text.now in
-        (hand : Option Rules) × IsHandRules given (spec.hand_word words) hand
+        (hand : Option Rules) × IsHandRules given (spec.hand_rules_word words) hand
         × MatchOption result (spec.game_of hand words ≡ None)
         (λ game. spec.game_of hand words ≡ Some (spec.said_by game)) }
 {

@@ -7,7 +7,7 @@ ghost use Rattle.riichi_game_text.specs.Words.{said_in};
 ghost use Rattle.riichi_game_text.specs.HandLines as spec;
 ghost use Rattle.riichi_game_text.specs.HandLines.{behind_entries};
 
-use crate::table_words::{key_of, value_of};
+use crate::table_words::{key_of, value_of_word};
 use crate::words::{has_equals, next_said};
 use arrayvec::{ArrayString, ArrayVec};
 use riichi_hand::{By, Job, LineCode, LineFault, MOST_LINE, Rules, WinRecord, Wind, read_line};
@@ -29,7 +29,7 @@ const MOST_KNOWN: usize = " by=tsumo seat=E round=E riichi=1".len();
 type HandLine = ArrayVec<u8, MOST_LINE>;
 
 /// The record of a hand, or its first fault. The words of the hand are those with `=` with which the text behind it begins.
-#[tactic(auto, unfolding(crate::specs::HandLines::hand_of))]
+#[tactic(auto, unfolding(crate::specs::HandLines::hand_said))]
 pub(crate) fn read_hand(
     rules: Rules,
     known: &Known,
@@ -37,7 +37,7 @@ pub(crate) fn read_hand(
     behind: &[u8],
 ) -> Result<WinRecord, LineFault>
     ensures { result
-        ≡ spec.hand_of rules known.now hand.now (spec.entry_words (said_in behind.now)) }
+        ≡ spec.hand_said rules known.now hand.now (spec.words_with_equals (said_in behind.now)) }
 {
     let read = read_win(rules, known, hand, behind);
     if has_known(behind) {
@@ -61,21 +61,21 @@ fn known_fault(read: &Result<WinRecord, LineFault>) -> LineFault
 #[tactic(auto, using(crate::proofs::LongLines::long_line))]
 fn read_win(rules: Rules, known: &Known, hand: &[u8], behind: &[u8]) -> Result<WinRecord, LineFault>
     ensures { result ≡ spec.won_by (outcome_of rules
-        (spec.hand_line known.now hand.now (spec.entry_words (said_in behind.now)))) }
+        (spec.hand_line known.now hand.now (spec.words_with_equals (said_in behind.now)))) }
 {
     let mut line = HandLine::new();
     if push_hand_line(&mut line, known, hand, behind).is_none() {
         return Err(LineFault::Line(LineCode::H1));
     }
     match read_line(rules, line.as_slice()) {
-        Ok(Some(job)) => win_in(&job),
+        Ok(Some(job)) => win_of_job(&job),
         Ok(None) => Err(LineFault::Line(LineCode::H2)),
         Err(fault) => Err(fault),
     }
 }
 
-fn win_in(job: &Job) -> Result<WinRecord, LineFault>
-    ensures { result ≡ spec.win_in job.now }
+fn win_of_job(job: &Job) -> Result<WinRecord, LineFault>
+    ensures { result ≡ spec.win_of_job job.now }
 {
     match job {
         Job::Win(win) => Ok(*win),
@@ -87,7 +87,7 @@ fn win_in(job: &Job) -> Result<WinRecord, LineFault>
 #[tactic(auto, using(crate::proofs::LongLines::longer))]
 fn push_hand_line(line: &mut HandLine, known: &Known, hand: &[u8], behind: &[u8]) -> Option<()>
     requires { line.old.items ≡ [] }
-    ensures { let words = spec.entry_words (said_in behind.now) in
+    ensures { let words = spec.words_with_equals (said_in behind.now) in
         let whole = spec.hand_line known.now hand.now words in
         MatchOption result (4096 < length whole) (λ _. line.new.items ≡ whole) }
 {
@@ -100,7 +100,7 @@ fn push_hand_line(line: &mut HandLine, known: &Known, hand: &[u8], behind: &[u8]
 /// Writes the words with `=` that come next, each behind a space.
 #[tactic(auto, using(crate::proofs::LongLines::longer))]
 fn push_entries(line: &mut HandLine, text: &[u8]) -> Option<()>
-    ensures { let words = spec.entry_words (said_in text.now) in
+    ensures { let words = spec.words_with_equals (said_in text.now) in
         let whole = line.old.items ++ flat_map spec.spaced words in
         MatchOption result (4096 < length whole) (λ _. line.new.items ≡ whole) }
 {
@@ -136,7 +136,7 @@ fn known_words(known: &Known) -> ArrayString<MOST_KNOWN>
     ensures { result.bytes ≡ spec.known_words known.now }
 {
     let mut text = ArrayString::new();
-    text.push_str(by_word(known.by));
+    text.push_str(won_by_word(known.by));
     text.push_str(" seat=");
     text.push_str(wind_word(known.seat));
     text.push_str(" round=");
@@ -145,8 +145,8 @@ fn known_words(known: &Known) -> ArrayString<MOST_KNOWN>
     text
 }
 
-fn by_word(by: By) -> &'static str
-    ensures value { result.now ≡ spec.by_word by }
+fn won_by_word(by: By) -> &'static str
+    ensures value { result.now ≡ spec.won_by_word by }
     ensures short { length result.now ≤ 9 }
 {
     match by {
@@ -178,9 +178,9 @@ fn riichi_word(bets: bool) -> &'static str
 pub(crate) fn next_entry(text: &[u8]) -> Option<(&[u8], &[u8])>
     ensures behind { MatchOption result (behind_entries (said_in text.now) ≡ said_in text.now)
         (λ found. behind_entries (said_in text.now) ≡ behind_entries (said_in found.1.now)) }
-    ensures words { MatchOption result (spec.entry_words (said_in text.now) ≡ [])
-        (λ found. (spec.entry_words (said_in text.now)
-        ≡ found.0.now ∷ spec.entry_words (said_in found.1.now))
+    ensures words { MatchOption result (spec.words_with_equals (said_in text.now) ≡ [])
+        (λ found. (spec.words_with_equals (said_in text.now)
+        ≡ found.0.now ∷ spec.words_with_equals (said_in found.1.now))
         × (length found.1.now < length text.now)) }
 {
     let (word, rest) = next_said(text)?;
@@ -193,7 +193,7 @@ pub(crate) fn next_entry(text: &[u8]) -> Option<(&[u8], &[u8])>
 
 /// Whether a hand has a word that the game knows.
 fn has_known(text: &[u8]) -> bool
-    ensures { result ≡ spec.has_known (spec.entry_words (said_in text.now)) }
+    ensures { result ≡ spec.has_known (spec.words_with_equals (said_in text.now)) }
 {
     let mut rest = text;
     while let Some((word, after)) = next_entry(rest) {
@@ -223,7 +223,7 @@ pub(crate) fn entry_value<'a>(text: &'a [u8], key: &[u8]) -> Option<&'a [u8]>
     let mut rest = text;
     while let Some((word, after)) = next_entry(rest) {
         if key_of(word) == key {
-            return Some(value_of(word));
+            return Some(value_of_word(word));
         }
         rest = after;
     }

@@ -26,7 +26,7 @@ pub struct Names {
 impl Names {
     /// Of players without names: `1`, `2`, `3` and `4`.
     pub fn numbered() -> Names
-        ensures { spec.names_in result ≡ spec.numbered }
+        ensures { spec.names_in result ≡ spec.numbered_names }
     {
         Names {
             names: ByPlayer {
@@ -178,10 +178,10 @@ fn have_equals(first: &[u8], second: &[u8], third: &[u8], fourth: &[u8]) -> bool
 }
 
 /// A word that can be a name.
-#[tactic(auto, unfolding(crate::specs::Names::is_name))]
+#[tactic(auto, unfolding(crate::specs::Names::is_player_name))]
 fn read_name(word: &[u8]) -> Option<Name>
-    ensures { MatchOption result (spec.is_name word.now ≡ false)
-        (λ name. (spec.is_name word.now ≡ true) × (name.bytes ≡ word.now)) }
+    ensures { MatchOption result (spec.is_player_name word.now ≡ false)
+        (λ name. (spec.is_player_name word.now ≡ true) × (name.bytes ≡ word.now)) }
 {
     if word.len() < 1
         || word.len() > MOST_NAME
@@ -207,13 +207,13 @@ pub(crate) fn text_of(word: &[u8]) -> Option<&str>
 }
 
 fn has_name_bytes_alone(word: &[u8]) -> bool
-    ensures { result ≡ list_all spec.is_name_byte word.now }
+    ensures { result ≡ list_all spec.is_player_name_byte word.now }
 {
-    word.iter().all(|byte| is_name_byte(*byte))
+    word.iter().all(|byte| is_player_name_byte(*byte))
 }
 
-fn is_name_byte(byte: u8) -> bool
-    ensures { result ≡ spec.is_name_byte byte }
+fn is_player_name_byte(byte: u8) -> bool
+    ensures { result ≡ spec.is_player_name_byte byte }
 {
     byte > b' ' && byte != b',' && byte != b':' && byte != b'=' && byte != 0x7f
 }

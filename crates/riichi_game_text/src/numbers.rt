@@ -11,7 +11,7 @@ const MOST_DIGITS: usize = 7;
 
 /// The number of a word of one to seven digits.
 pub(crate) fn read_number(word: &[u8]) -> Option<u32>
-    ensures value { result ≡ spec.number_of word.now }
+    ensures value { result ≡ spec.number_in word.now }
     ensures most { IfSome result (λ number. number < 10000000) }
 {
     read_digits(MOST_DIGITS, word)
@@ -25,7 +25,7 @@ pub(crate) fn read_digits(most: usize, word: &[u8]) -> Option<u32>
     ensures nine { IfSome result (λ number. number < 1000000000) }
 {
     if are_digits(most, word) {
-        Some(value_of_digits(word))
+        Some(number_spelled(word))
     } else {
         None
     }
@@ -44,10 +44,10 @@ fn has_digits_alone(word: &[u8]) -> bool
 }
 
 /// The number that at most nine digits spell.
-fn value_of_digits(digits: &[u8]) -> u32
+fn number_spelled(digits: &[u8]) -> u32
     requires few { length digits.now ≤ 9 }
     requires digits { list_all is_digit digits.now ≡ true }
-    ensures value { result ≡ spec.value_of_digits 0 digits.now }
+    ensures value { result ≡ spec.number_spelled 0 digits.now }
     ensures seven { length digits.now ≤ 7 → result < 10000000 }
     ensures nine { result < 1000000000 }
 {
@@ -70,7 +70,7 @@ fn with_digit(number: u32, digit: u8) -> u32
 
 /// A number from 1 on.
 pub(crate) fn read_from_one(word: &[u8]) -> Option<u32>
-    ensures { result ≡ spec.at_least_one (spec.number_of word.now) }
+    ensures { result ≡ spec.at_least_one (spec.number_in word.now) }
 {
     let number = read_number(word)?;
     if number >= 1 { Some(number) } else { None }
@@ -95,7 +95,7 @@ pub(crate) fn read_thousands(word: &[u8]) -> Option<i32>
 }
 
 fn thousands_if_few(digits: &[u8]) -> Option<u32>
-    ensures value { result ≡ spec.thousands_if_few (spec.number_of digits.now) }
+    ensures value { result ≡ spec.thousands_if_few (spec.number_in digits.now) }
     ensures most { IfSome result (λ points. points ≤ 1000000) }
 {
     let number = read_number(digits)?;

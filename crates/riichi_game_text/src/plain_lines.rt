@@ -3,7 +3,7 @@ ghost use Rattle.std.specs.Prelude.{◌≡◌};
 ghost use Rattle.riichi_game_text.specs.Words.{said_in};
 ghost use Rattle.riichi_game_text.specs.Names.{names_in};
 ghost use Rattle.riichi_game_text.specs.PlainLines as spec;
-ghost use Rattle.riichi_game_text.specs.Numbers.{number_of};
+ghost use Rattle.riichi_game_text.specs.Numbers.{number_in};
 
 use crate::fault::GameFault;
 use crate::forms::{draw_form, name_form, riichi_at_end};
@@ -90,7 +90,7 @@ fn penalty_with(names: &Names, name: &[u8], points: Option<u32>) -> Result<Outco
 /// Whole hundreds up to a million.
 #[tactic(auto, unfolding(riichi_table::specs::RulesFaults::is_points))]
 fn read_points(word: &[u8]) -> Option<u32>
-    ensures { result ≡ spec.points_if (number_of word.now) }
+    ensures { result ≡ spec.points_if (number_in word.now) }
 {
     let points = read_number(word)?;
     if points <= 1_000_000 && points % 100 == 0 {

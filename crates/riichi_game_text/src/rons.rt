@@ -12,7 +12,7 @@ use crate::name::Names;
 use crate::ron_form::{RonForm, ron_form};
 use crate::value::WrittenValue;
 use crate::win::WrittenWin;
-use crate::won::{bets_with, denies_bet, liable_named, riichi_said, win_of};
+use crate::won::{bets_with, denies_bet, liable_named, riichi_said, win_said};
 use riichi_hand::By;
 use riichi_table::{ByPlayer, GameState, Outcome, Player, TableRules, Win};
 
@@ -313,7 +313,7 @@ fn won(
         (Some (said_win win.now)) }
 {
     let bets = riichi.get(named.winner);
-    win_of(rules, state, By::Ron, named.winner, named.liable, bets, win)
+    win_said(rules, state, By::Ron, named.winner, named.liable, bets, win)
 }
 
 fn won_if_said(

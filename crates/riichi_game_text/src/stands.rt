@@ -54,7 +54,7 @@ fn stands_by(rules: &TableRules, form: &StandsForm) -> Result<Outcome, GameFault
 fn over_fault(rules: &TableRules, form: &StandsForm) -> GameFault
     ensures { result ≡ spec.over_fault rules.now form.now }
 {
-    if adds_up(rules, form) && has_round(rules, form.round) {
+    if points_add_up(rules, form) && has_round(rules, form.round) {
         GameFault::G12
     } else {
         GameFault::G11
@@ -62,8 +62,8 @@ fn over_fault(rules: &TableRules, form: &StandsForm) -> GameFault
 }
 
 /// Whether the points and 1000 for each stick are four times the start.
-fn adds_up(rules: &TableRules, form: &StandsForm) -> bool
-    ensures { result ≡ spec.adds_up rules.now form.now }
+fn points_add_up(rules: &TableRules, form: &StandsForm) -> bool
+    ensures { result ≡ spec.points_add_up rules.now form.now }
 {
     sum_of(&form.points) + stick_points(form.sticks) == whole_of(rules.start)
 }
@@ -193,8 +193,8 @@ fn points_said(text: &[u8]) -> Option<ByPlayer<i32>>
 }
 
 fn all_held(first: &[u8], second: &[u8], third: &[u8], fourth: &[u8]) -> Option<ByPlayer<i32>>
-    ensures { result ≡ spec.all_held (spec.held_of first.now) (spec.held_of second.now)
-        (spec.held_of third.now) (spec.held_of fourth.now) }
+    ensures { result ≡ spec.all_held (spec.points_held first.now) (spec.points_held second.now)
+        (spec.points_held third.now) (spec.points_held fourth.now) }
 {
     let first = read_held(first)?;
     let second = read_held(second)?;
@@ -209,9 +209,9 @@ fn all_held(first: &[u8], second: &[u8], third: &[u8], fourth: &[u8]) -> Option<
 }
 
 /// Points that a player may have.
-#[tactic(auto, unfolding(crate::specs::StandsLines::held_of))]
+#[tactic(auto, unfolding(crate::specs::StandsLines::points_held))]
 fn read_held(word: &[u8]) -> Option<i32>
-    ensures { result ≡ spec.held_of word.now }
+    ensures { result ≡ spec.points_held word.now }
 {
     match word {
         [] => None,

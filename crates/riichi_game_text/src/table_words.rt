@@ -13,20 +13,20 @@ use riichi_table::TableRules;
 use riichi_tiles::split_at_mark;
 
 /// The rules that the words with `=` of a text say; those for hands are the given ones where no word names them. None where a word stands twice, is no word or has a value that can't be.
-#[tactic(auto, unfolding(crate::specs::TableWords::rules_of))]
+#[tactic(auto, unfolding(crate::specs::TableWords::table_rules_of))]
 pub(crate) fn read_table_rules(given: Rules, text: &[u8]) -> Option<TableRules>
     ensures { let words = rule_words (said_in text.now) in
         (hand : Option Rules) × spec.IsHandRules given (spec.first_value (codes "rules") words) hand
-        × (result ≡ spec.rules_of hand words) }
+        × (result ≡ spec.table_rules_of hand words) }
 {
     let hand = hand_rules(given, first_value(text, b"rules"));
     rules_with(hand, text)
 }
 
 /// What the words say, by the rules for hands.
-#[tactic(auto, using(crate::proofs::ChangeLemmas::none_stays), unfolding(crate::specs::TableWords::rules_of))]
+#[tactic(auto, using(crate::proofs::ChangeLemmas::none_stays), unfolding(crate::specs::TableWords::table_rules_of))]
 fn rules_with(hand: Option<Rules>, text: &[u8]) -> Option<TableRules>
-    ensures { result ≡ spec.rules_of hand (rule_words (said_in text.now)) }
+    ensures { result ≡ spec.table_rules_of hand (rule_words (said_in text.now)) }
 {
     if has_twice(text) {
         return None;
@@ -85,18 +85,18 @@ fn change_by_all(rules: &mut TableRules, text: &[u8]) -> Option<()>
 {
     let mut rest = text;
     while let Some((word, after)) = next_rule_word(rest) {
-        change_by(rules, word)?;
+        change_by_word(rules, word)?;
         rest = after;
     }
     Some(())
 }
 
-fn change_by(rules: &mut TableRules, word: &[u8]) -> Option<()>
-    ensures { let changed = spec.change_by word.now (Some rules.old) in
+fn change_by_word(rules: &mut TableRules, word: &[u8]) -> Option<()>
+    ensures { let changed = spec.change_by_word word.now (Some rules.old) in
         MatchOption result (changed ≡ None) (λ _. changed ≡ Some rules.new) }
 {
     let setting = Setting::read(key_of(word))?;
-    change(rules, setting, value_of(word))
+    change(rules, setting, value_of_word(word))
 }
 
 /// Whether a word stands twice.
@@ -121,7 +121,7 @@ fn first_value<'a>(text: &'a [u8], key: &[u8]) -> Option<&'a [u8]>
     let mut rest = text;
     while let Some((word, after)) = next_rule_word(rest) {
         if key_of(word) == key {
-            return Some(value_of(word));
+            return Some(value_of_word(word));
         }
         rest = after;
     }
@@ -137,8 +137,8 @@ pub(crate) fn key_of(word: &[u8]) -> &[u8]
     }
 }
 
-pub(crate) fn value_of(word: &[u8]) -> &[u8]
-    ensures { result.now ≡ spec.value_of word.now }
+pub(crate) fn value_of_word(word: &[u8]) -> &[u8]
+    ensures { result.now ≡ spec.value_of_word word.now }
 {
     match split_at_mark(word, b'=') {
         None => &[],

@@ -3,7 +3,7 @@ ghost use Rattle.std.specs.Prelude.{◌≡◌, ◌≤◌, min, None, Some};
 ghost use Rattle.riichi_tiles.specs.Melds.{cut_at};
 ghost use Rattle.riichi_score.specs.Best.{best_of};
 ghost use Rattle.riichi_game_text.specs.Words.{said_in};
-ghost use Rattle.riichi_game_text.specs.HandLines.{entry_words};
+ghost use Rattle.riichi_game_text.specs.HandLines.{words_with_equals};
 ghost use Rattle.riichi_game_text.specs.Written as spec;
 
 use crate::fault::{GameFault, HandFault};
@@ -120,7 +120,7 @@ pub(crate) fn value_worth(
     hand: &[u8],
     behind: &[u8],
 ) -> Result<ValueWorth, GameFault>
-    ensures { let words = entry_words (said_in behind.now) in
+    ensures { let words = words_with_equals (said_in behind.now) in
         result ≡ spec.value_worth rules known.now value hand.now words }
 {
     match value {
@@ -156,7 +156,7 @@ fn for_one(worth: Option<Worth>) -> Result<ValueWorth, GameFault>
 }
 
 fn worth_of(rules: Rules, win: &WinRecord) -> Result<ValueWorth, GameFault>
-    ensures { result ≡ spec.worth_of_answer rules (best_of win.now) }
+    ensures { result ≡ spec.value_worth_of_answer rules (best_of win.now) }
 {
     match best(win) {
         WinAnswer::Won(score) => Ok(ValueWorth {

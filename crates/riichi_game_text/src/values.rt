@@ -1,6 +1,6 @@
 //! The values of the words of a table.
 ghost use Rattle.std.specs.Prelude.{◌≡◌, Some, None, MatchOption, option_map};
-ghost use Rattle.riichi_game_text.specs.Numbers.{number_of, at_least_one};
+ghost use Rattle.riichi_game_text.specs.Numbers.{number_in, at_least_one};
 ghost use Rattle.riichi_game_text.specs.Settings as spec;
 
 use crate::numbers::{read_from_one, read_number, read_thousands};
@@ -54,7 +54,7 @@ pub(crate) fn change(rules: &mut TableRules, setting: Setting, value: &[u8]) -> 
 }
 
 fn is_from_one(value: &[u8]) -> Option<()>
-    ensures { result ≡ option_map (λ number. tt) (at_least_one (number_of value.now)) }
+    ensures { result ≡ option_map (λ number. tt) (at_least_one (number_in value.now)) }
 {
     read_from_one(value)?;
     Some(())
@@ -164,9 +164,9 @@ fn read_cost(value: &[u8]) -> Option<ChomboCost>
 }
 
 /// Four numbers of thousands, with commas between them.
-#[tactic(auto, unfolding(crate::specs::Settings::uma_of))]
+#[tactic(auto, unfolding(crate::specs::Settings::uma_named))]
 fn read_uma(value: &[u8]) -> Option<ByPlace<i32>>
-    ensures { result ≡ spec.uma_of value.now }
+    ensures { result ≡ spec.uma_named value.now }
 {
     let (first, behind) = cut_thousands(value)?;
     let (second, behind) = cut_thousands(behind)?;

@@ -46,8 +46,8 @@ pub(crate) fn denies_bet(value: Option<&[u8]>) -> bool
 }
 
 /// What a player wins, or the first fault of the value, the hand and the limits that somebody is liable for.
-#[tactic(auto, unfolding(crate::specs::Won::win_of))]
-pub(crate) fn win_of(
+#[tactic(auto, unfolding(crate::specs::Won::win_said))]
+pub(crate) fn win_said(
     rules: &TableRules,
     state: &GameState,
     by: By,
@@ -56,7 +56,7 @@ pub(crate) fn win_of(
     bets: bool,
     win: &WrittenWin<'_>,
 ) -> Result<Win, GameFault>
-    ensures { result ≡ spec.win_of rules.now state.now by winner liable bets (said_win win.now) }
+    ensures { result ≡ spec.win_said rules.now state.now by winner liable bets (said_win win.now) }
 {
     let known = known_of(state, by, winner, bets, win);
     let value = value_worth(rules.hand, &known, win.value, win.hand, win.words)?;
@@ -166,11 +166,11 @@ fn is_wrong(
 ) -> bool
     ensures { result ≡ spec.is_wrong winner liable riichi.now (said_win win.now) }
 {
-    is_liable(liable, winner) || (riichi.get(winner) && denies_bet(riichi_said(win)))
+    is_liable_winner(liable, winner) || (riichi.get(winner) && denies_bet(riichi_said(win)))
 }
 
-fn is_liable(liable: Option<Player>, winner: Player) -> bool
-    ensures { result ≡ spec.is_liable liable winner }
+fn is_liable_winner(liable: Option<Player>, winner: Player) -> bool
+    ensures { result ≡ spec.is_liable_winner liable winner }
 {
     match liable {
         None => false,
@@ -243,7 +243,7 @@ fn tsumo_won(
         return Err(GameFault::G5);
     }
     let bets = riichi.get(winner);
-    let won = win_of(rules, state, By::Tsumo, winner, liable, bets, win)?;
+    let won = win_said(rules, state, By::Tsumo, winner, liable, bets, win)?;
     Ok(Outcome::Tsumo {
         winner,
         win: won,

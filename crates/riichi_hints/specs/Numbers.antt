@@ -20,11 +20,11 @@ abbrev pub tiles_in : List ℕ → ℕ
 tiles_in word = count_by is_digit word
 
 -- each meld of a word has one `:`, between its name and its tiles
-abbrev pub melds_in : List ℕ → ℕ
-melds_in word = count_by (λ byte. byte == 58) word
+abbrev pub melds_in_word : List ℕ → ℕ
+melds_in_word word = count_by (λ byte. byte == 58) word
 
 abbrev pub melds_on_line : List ℕ → ℕ
-melds_on_line line = option_map_or (λ from. melds_in (word_of from)) (from_key key.Open 0 line) 0
+melds_on_line line = option_map_or (λ from. melds_in_word (word_of from)) (from_key key.Open 0 line) 0
 
 -- thirteen tiles stand in a hand before the last is drawn, three fewer for each meld
 abbrev pub wanted_in_hand : List ℕ → ℕ
@@ -39,13 +39,13 @@ last_tile text = if nat_le 2 (length text) then Some (record { digit = slice_ind
 abbrev pub winning_tile : List ℕ → Option Tile
 winning_tile line = option_and_then (λ from. last_tile (word_of from)) (from_key key.On 0 line)
 
-abbrev pub has_tile : List ℕ → Option Tile → Bool
-has_tile hand None = false
-has_tile hand (Some tile) = nat_lt 0 (copies_on_line tile.digit tile.suit hand)
+abbrev pub holds_tile : List ℕ → Option Tile → Bool
+holds_tile hand None = false
+holds_tile hand (Some tile) = nat_lt 0 (copies_on_line tile.digit tile.suit hand)
 
 -- the hand has one tile more than is wanted, and the winning tile is among them
 abbrev pub may_have_counted : List ℕ → List ℕ → Bool
-may_have_counted line hand = (tiles_in hand == wanted_in_hand line + 1) && has_tile hand (winning_tile line)
+may_have_counted line hand = (tiles_in hand == wanted_in_hand line + 1) && holds_tile hand (winning_tile line)
 
 -- ---- what is told
 
@@ -57,17 +57,17 @@ wanted_of key = codes ": at most 5 wanted"
 abbrev pub doubt_text : List ℕ → List ℕ → List ℕ
 doubt_text line hand = if may_have_counted line hand then codes "; it may have been counted in the hand too" else []
 
-abbrev pub win_text : List ℕ → List ℕ → List ℕ
-win_text line hand = codes " wanted beside the winning tile of on=" ++ doubt_text line hand
+abbrev pub wanted_by_win_text : List ℕ → List ℕ → List ℕ
+wanted_by_win_text line hand = codes " wanted beside the winning tile of on=" ++ doubt_text line hand
 
 -- what follows the number of tiles that is wanted: a shape may have one more, a win has its winning tile beside the hand
 abbrev pub job_text : Option JobName → List ℕ → List ℕ → List ℕ
 job_text (Some Shape) line hand = codes " or " ++ (decimal (wanted_in_hand line + 1) ++ codes " wanted")
-job_text (Some Win) line hand = win_text line hand
+job_text (Some Win) line hand = wanted_by_win_text line hand
 job_text job line hand = codes " wanted"
 
-abbrev pub hand_text : Option JobName → List ℕ → List ℕ → List ℕ
-hand_text job line hand = (codes " and " ++ count_text (melds_on_line line) (codes "meld")) ++ (codes ": " ++ (decimal (wanted_in_hand line) ++ job_text job line hand))
+abbrev pub wanted_in_hand_text : Option JobName → List ℕ → List ℕ → List ℕ
+wanted_in_hand_text job line hand = (codes " and " ++ count_text (melds_on_line line) (codes "meld")) ++ (codes ": " ++ (decimal (wanted_in_hand line) ++ job_text job line hand))
 
 -- a word without a key is the hand
 abbrev pub subject : Option Key → List ℕ
@@ -75,7 +75,7 @@ subject None = codes "hand"
 subject (Some key) = key_name key
 
 abbrev pub wanted_text : Option Key → Option JobName → List ℕ → List ℕ → List ℕ
-wanted_text None job line word = hand_text job line word
+wanted_text None job line word = wanted_in_hand_text job line word
 wanted_text (Some key) job line word = wanted_of key
 
 -- how many tiles the word has, and how many are wanted

@@ -57,7 +57,7 @@ fn wanted_of(key: Key) -> &'static [u8]
 
 /// The melds, and how many tiles are wanted beside them.
 fn add_hand_words(note: &mut Part, line: &[u8], job: Option<JobName>, hand: &[u8])
-    ensures { let text = spec.hand_text job line.now hand.now in
+    ensures { let text = spec.wanted_in_hand_text job line.now hand.now in
         length note.old.items + length text ≤ PART → note.new.items ≡ note.old.items ++ text }
 {
     add_count(note, " and ", meld_count(line), "meld");
@@ -84,7 +84,7 @@ fn add_job_words(note: &mut Part, job: Option<JobName>, line: &[u8], hand: &[u8]
 
 /// The winning tile, which stands beside the hand and may have been counted in it.
 fn add_win_words(note: &mut Part, line: &[u8], hand: &[u8])
-    ensures { let text = spec.win_text line.now hand.now in
+    ensures { let text = spec.wanted_by_win_text line.now hand.now in
         length note.old.items + length text ≤ PART → note.new.items ≡ note.old.items ++ text }
 {
     add_all(note, b" wanted beside the winning tile of on=");

@@ -8,7 +8,7 @@ use Rattle.riichi_hand.specs.declared.win.By.{By}
 use Rattle.riichi_score.specs.Base.{base_of, low_base}
 use Rattle.riichi_game.specs.Values.{occurs, is_fu, is_none}
 use Rattle.riichi_need.specs.Rows.{IsRow, limit_of, all_fu}
-use Rattle.riichi_need.specs.Needs.{IsRowOf}
+use Rattle.riichi_need.specs.Needs.{IsBaseOfHan}
 use Rattle.riichi_hand.specs.declared.switch.Switch.TheVariants.{CountedYakuman}
 
 abbrev IsListed : ℕ → Type 0
@@ -73,9 +73,9 @@ many_han rules han fu h = limit_if (nat_le han 4) (nat_le han 5) (nat_le han 7) 
 -- of one to four han and a listed fu, or of a limit hand
 abbrev pub IsListedRow : Rules → By → ℕ → Type 0
 IsListedRow rules by base =
-    IsRowOf rules by 1 base ⊎ (IsRowOf rules by 2 base ⊎ (IsRowOf rules by 3 base ⊎ (IsRowOf rules by 4 base ⊎ IsSome (limit_of base))))
+    IsBaseOfHan rules by 1 base ⊎ (IsBaseOfHan rules by 2 base ⊎ (IsBaseOfHan rules by 3 base ⊎ (IsBaseOfHan rules by 4 base ⊎ IsSome (limit_of base))))
 
-row_of : (rules : Rules) (by : By) (han fu base : ℕ) → occurs rules by han fu ≡ true → base_of rules han fu ≡ base → IsRowOf rules by han base
+row_of : (rules : Rules) (by : By) (han fu base : ℕ) → occurs rules by han fu ≡ true → base_of rules han fu ≡ base → IsBaseOfHan rules by han base
 row_of rules by han fu base e is =
     let place = fu_listed rules by han fu e in
     (place.0, place.1, subst (λ (n : ℕ). (occurs rules by han n ≡ true) × (base_of rules han n ≡ base)) (sym place.2) (e, is))
@@ -93,7 +93,7 @@ pub is_listed : (rules : Rules) (by : By) (base : ℕ) → IsRow rules by base �
 is_listed rules by base (inl h) = by_han rules by h.0 h.1 base h.2 h.3
 is_listed rules by base (inr h) = inr (inr (inr (inr h)))
 
-counted : (rules : Rules) (by : By) (han base : ℕ) → IsRowOf rules by han base → IsRow rules by base
+counted : (rules : Rules) (by : By) (han base : ℕ) → IsBaseOfHan rules by han base → IsRow rules by base
 counted rules by han base h = inl (han, slice_index all_fu h.0, h.2.0, h.2.1)
 
 pub is_row : (rules : Rules) (by : By) (base : ℕ) → IsListedRow rules by base → IsRow rules by base

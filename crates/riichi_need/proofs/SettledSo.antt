@@ -2,12 +2,12 @@
 use Rattle.std.proofs.Common.{◌≡◌, ℕ, ◌+◌, ◌*◌, Bool, true, false, ℤ, pos, neg_ℤ, ◌+ℤ◌, ◌-ℤ◌, if◌then◌else◌, ap, refl, sym, ◌∙◌, arith}
 use Rattle.std.proofs.lemmas.Int.{ints}
 use Rattle.riichi_score.specs.Payment.{paid, gain_of}
-use Rattle.riichi_table.specs.Players.{of_player, with_player, is_same, count_of}
-use Rattle.riichi_table.specs.Worths.{base_of}
+use Rattle.riichi_table.specs.Players.{of_player, with_player, is_same_player, count_players}
+use Rattle.riichi_table.specs.Worths.{base_of_worth}
 use Rattle.riichi_table.specs.declared.player.Player.{Player}
 use Rattle.riichi_table.specs.declared.player.Player.TheVariants.{First, Second, Third, Fourth}
 use Rattle.riichi_settle.specs.Laws.{SettlesLoneRon, SettlesLoneTsumo, nobody}
-use Rattle.riichi_settle.specs.Laws.{share_of}
+use Rattle.riichi_settle.specs.Laws.{share_of_payment}
 use Rattle.riichi_need.specs.Winning.{payment_for, other_bets, points_then}
 use Rattle.riichi_need.specs.Laws.{RonIsSettledSo, TsumoIsSettledSo}
 use Rattle.riichi_need.specs.declared.question.Question.{Question}
@@ -25,7 +25,7 @@ not_in Second = refl
 not_in Third = refl
 not_in Fourth = refl
 
-same_back : (one other : Player) → is_same one other ≡ is_same other one
+same_back : (one other : Player) → is_same_player one other ≡ is_same_player other one
 same_back First First = refl
 same_back First Second = refl
 same_back First Third = refl
@@ -68,10 +68,10 @@ pub ron_is_settled_so : SettlesLoneRon → RonIsSettledSo
 unfolding points_then
 ron_is_settled_so law question from player worth none other =
     let x = of_player question.state.points player in
-    let payment = payment_for question (Ron from) (base_of worth) in
+    let payment = payment_for question (Ron from) (base_of_worth worth) in
     let gain = gain_of payment question.state.sticks in
-    ron_case (is_same player question.player) (is_same player from) x gain _ (paid payment) _
-    (ap (λ bets. count_of (of_player bets)) (no_bets question none)) (no_bet question player none)
+    ron_case (is_same_player player question.player) (is_same_player player from) x gain _ (paid payment) _
+    (ap (λ bets. count_players (of_player bets)) (no_bets question none)) (no_bet question player none)
     ∙ (λ k. x +ℤ (if same_back player question.player k then pos gain else if same_back player from k then neg_ℤ (pos (paid payment)) else pos 0))
     ∙ ap (λ change. x +ℤ change) (sym (law question.state question.rules from question.player player worth other))
 
@@ -79,10 +79,10 @@ pub tsumo_is_settled_so : SettlesLoneTsumo → TsumoIsSettledSo
 unfolding points_then
 tsumo_is_settled_so law question player worth none =
     let x = of_player question.state.points player in
-    let payment = payment_for question Tsumo (base_of worth) in
+    let payment = payment_for question Tsumo (base_of_worth worth) in
     let gain = gain_of payment question.state.sticks in
-    let share = share_of payment (is_same player question.state.dealer) in
-    tsumo_case (is_same player question.player) x gain _ share _
-    (ap (λ bets. count_of (of_player bets)) (no_bets question none)) (no_bet question player none)
+    let share = share_of_payment payment (is_same_player player question.state.dealer) in
+    tsumo_case (is_same_player player question.player) x gain _ share _
+    (ap (λ bets. count_players (of_player bets)) (no_bets question none)) (no_bet question player none)
     ∙ ap (λ same. x +ℤ (if same then pos gain else neg_ℤ (pos share))) (same_back player question.player)
     ∙ ap (λ change. x +ℤ change) (sym (law question.state question.rules question.player player worth))

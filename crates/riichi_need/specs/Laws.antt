@@ -1,7 +1,7 @@
 -- What holds of all needs.
 use Rattle.std.specs.Prelude.{ℕ, ◌≡◌, ◌≤◌, true, false, ℤ, ◌+ℤ◌}
-use Rattle.riichi_table.specs.Players.{of_player, is_same}
-use Rattle.riichi_table.specs.Worths.{base_of}
+use Rattle.riichi_table.specs.Players.{of_player, is_same_player}
+use Rattle.riichi_table.specs.Worths.{base_of_worth}
 use Rattle.riichi_table.specs.declared.player.Player.{Player}
 use Rattle.riichi_table.specs.declared.worth.Worth.{Worth}
 use Rattle.riichi_table.specs.declared.outcome.Outcome.{Outcome}
@@ -25,12 +25,12 @@ settled_change question outcome player = change_of question.state question.rules
 -- where nobody bets, the points that a win by ron is asked by are those that it is settled with
 abbrev pub RonIsSettledSo : Type 0
 RonIsSettledSo = (question : Question) (from player : Player) (worth : Worth) →
-    question.bets ≡ nobody → is_same from question.player ≡ false →
-    points_then question (Ron from) (base_of worth) player
+    question.bets ≡ nobody → is_same_player from question.player ≡ false →
+    points_then question (Ron from) (base_of_worth worth) player
     ≡ of_player question.state.points player +ℤ settled_change question (lone_ron from question.player worth) player
 
 -- and those of a win by self-draw too
 abbrev pub TsumoIsSettledSo : Type 0
 TsumoIsSettledSo = (question : Question) (player : Player) (worth : Worth) → question.bets ≡ nobody →
-    points_then question Tsumo (base_of worth) player
+    points_then question Tsumo (base_of_worth worth) player
     ≡ of_player question.state.points player +ℤ settled_change question (lone_tsumo question.player worth) player

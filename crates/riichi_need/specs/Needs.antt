@@ -1,6 +1,6 @@
 -- What a player needs.
 use Rattle.std.specs.Prelude.{ℕ, ◌≡◌, ◌≤◌, min, Bool, true, false, ◌&&◌, if◌then◌else◌, SomeIndex, IsSome, slice_index, Option, Some, None}
-use Rattle.riichi_table.specs.Players.{of_player, is_same}
+use Rattle.riichi_table.specs.Players.{of_player, is_same_player}
 use Rattle.riichi_table.specs.declared.player.Player.{Player}
 use Rattle.riichi_table.specs.declared.player.ByPlayer.{ByPlayer}
 use Rattle.riichi_hand.specs.Rules.{Rules}
@@ -54,8 +54,8 @@ IsNeed question way need = IsLeastRow question way Strictly need.strictly × IsL
 
 -- off each other player, and nothing off the own discard
 abbrev pub IsRonNeed : Question → Player → Option Need → Type 0
-IsRonNeed question from None = is_same from question.player ≡ true
-IsRonNeed question from (Some need) = (is_same from question.player ≡ false) × IsNeed question (Ron from) need
+IsRonNeed question from None = is_same_player from question.player ≡ true
+IsRonNeed question from (Some need) = (is_same_player from question.player ≡ false) × IsNeed question (Ron from) need
 
 abbrev pub AreRonNeeds : Question → ByPlayer (Option Need) → Type 0
 AreRonNeeds question needs = (from : Player) → IsRonNeed question from (of_player needs from)
@@ -78,14 +78,14 @@ base_passing rules by passes han fu =
     if occurs rules by han fu && passes (base_of rules han fu) then Some (base_of rules han fu) else None
 
 -- some hand of so many han has these base points.
-abbrev pub IsRowOf : Rules → By → ℕ → ℕ → Type 0
-IsRowOf rules by han base =
+abbrev pub IsBaseOfHan : Rules → By → ℕ → ℕ → Type 0
+IsBaseOfHan rules by han base =
     SomeIndex all_fu (λ k. (occurs rules by han (slice_index all_fu k) ≡ true) × (base_of rules han (slice_index all_fu k) ≡ base))
 
 -- the least of the hands of so many han
 abbrev pub IsLeastOfHan : Question → Way → Aim → ℕ → Option ℕ → Type 0
 IsLeastOfHan question way aim han base =
-    IsLeast (IsRowOf question.rules.hand (way_by way) han) (reaches question aim way) base
+    IsLeast (IsBaseOfHan question.rules.hand (way_by way) han) (reaches question aim way) base
 
 -- the least of the limit hands
 abbrev pub IsLeastLimit : Question → Way → Aim → Option ℕ → Type 0

@@ -1,6 +1,6 @@
 -- Whether a win brings a player to a place.
 use Rattle.std.specs.Prelude.{ℕ, Bool, not, ◌&&◌, nat_lt, int_lt, ℤ}
-use Rattle.riichi_table.specs.Players.{of_player, is_same, count_of}
+use Rattle.riichi_table.specs.Players.{of_player, is_same_player, count_players}
 use Rattle.riichi_table.specs.declared.player.Player.{Player}
 use Rattle.riichi_table.specs.declared.player.ByPlayer.{ByPlayer}
 use Rattle.riichi_places.specs.Places.{ahead_of}
@@ -12,11 +12,11 @@ use Rattle.riichi_need.specs.declared.question.Way.{Way}
 
 -- another has as many points as the player, or more
 abbrev pub is_not_below : ByPlayer ℤ → Player → Player → Bool
-is_not_below points player other = not (is_same other player) && not (int_lt (of_player points other) (of_player points player))
+is_not_below points player other = not (is_same_player other player) && not (int_lt (of_player points other) (of_player points player))
 
 -- how many others have as many, or more
 unfoldable pub not_below_of : ByPlayer ℤ → Player → ℕ
-not_below_of points player = count_of (is_not_below points player)
+not_below_of points player = count_players (is_not_below points player)
 
 -- fewer others than the place have as many points or more; with a tie, fewer are ahead
 abbrev pub has_place : Question → Aim → ByPlayer ℤ → Bool

@@ -1,8 +1,8 @@
 //! The points of the four after a player has won alone.
 ghost use Rattle.std.specs.Prelude.{◌≡◌, ◌≤◌, ◌+◌, ◌*◌, ◌≤ℤ◌, pos, negsuc};
-ghost use Rattle.riichi_table.specs.Players.{of_player, count_of};
+ghost use Rattle.riichi_table.specs.Players.{of_player, count_players};
 ghost use Rattle.riichi_score.specs.Payment as score;
-ghost use Rattle.riichi_settle.specs.Laws.{share_of};
+ghost use Rattle.riichi_settle.specs.Laws.{share_of_payment};
 ghost use Rattle.riichi_need.specs.Winning as spec;
 
 use crate::question::{Question, Way};
@@ -66,7 +66,7 @@ fn pays(question: &Question, way: Way, base: u32, player: Player) -> u32
     let payment = payment_for(question, way, base);
     match way {
         Way::Ron { from } => { if player.is(from) { paid(&payment) } else { 0 } }
-        Way::Tsumo => share_of(&payment, player.is(question.state.dealer)),
+        Way::Tsumo => share_of_payment(&payment, player.is(question.state.dealer)),
     }
 }
 
@@ -77,9 +77,9 @@ fn paid(payment: &Payment) -> u32
     gain(payment, 0)
 }
 
-fn share_of(payment: &Payment, dealer: bool) -> u32
+fn share_of_payment(payment: &Payment, dealer: bool) -> u32
     requires { score.paid payment.now ≤ 5000000 }
-    ensures value { result ≡ share_of payment.now dealer }
+    ensures value { result ≡ share_of_payment payment.now dealer }
     ensures most { result ≤ 5000000 }
 {
     match payment {

@@ -5,7 +5,7 @@ use Rattle.riichi_hand.specs.Rules.{Rules}
 use Rattle.riichi_hand.specs.declared.win.By.{By}
 use Rattle.riichi_score.specs.Payment.{paid_for}
 use Rattle.riichi_score.specs.Text.{payment_text}
-use Rattle.riichi_table.specs.Players.{of_player, is_same}
+use Rattle.riichi_table.specs.Players.{of_player, is_same_player}
 use Rattle.riichi_table.specs.declared.player.Player.{Player}
 use Rattle.riichi_table.specs.declared.player.Player.TheVariants.{First, Second, Third, Fourth}
 use Rattle.riichi_table.specs.declared.player.ByPlayer.{ByPlayer}
@@ -30,44 +30,44 @@ way_text names Tsumo = codes "tsumo"
 
 -- ---- the hands that have so many base points
 
-abbrev pub limit_text : Option LimitHand → List ℕ
-limit_text None = []
-limit_text (Some Mangan) = codes " mangan"
-limit_text (Some Haneman) = codes " haneman"
-limit_text (Some Baiman) = codes " baiman"
-limit_text (Some Sanbaiman) = codes " sanbaiman"
-limit_text (Some (Yakuman limits)) = codes " yakuman"
+abbrev pub limit_hand_text : Option LimitHand → List ℕ
+limit_hand_text None = []
+limit_hand_text (Some Mangan) = codes " mangan"
+limit_hand_text (Some Haneman) = codes " haneman"
+limit_hand_text (Some Baiman) = codes " baiman"
+limit_hand_text (Some Sanbaiman) = codes " sanbaiman"
+limit_hand_text (Some (Yakuman limits)) = codes " yakuman"
 
 -- ` 3.60` where a hand of so many han and fu has them
-abbrev pub pair_text : Rules → By → ℕ → ℕ → ℕ → List ℕ
-pair_text rules by base han fu =
+abbrev pub counted_hand_text : Rules → By → ℕ → ℕ → ℕ → List ℕ
+counted_hand_text rules by base han fu =
     if pays_so rules by base han fu then codes " " ++ decimal han ++ codes "." ++ decimal fu else []
 
-abbrev pub pairs_text : Rules → By → ℕ → ℕ → List ℕ
-pairs_text rules by base han = flat_map (pair_text rules by base han) all_fu
+abbrev pub counted_hands_text : Rules → By → ℕ → ℕ → List ℕ
+counted_hands_text rules by base han = flat_map (counted_hand_text rules by base han) all_fu
 
 -- the limit hand, and those of up to four han by their fu; with more han a hand is a limit hand
 abbrev pub hands_text : Rules → By → ℕ → List ℕ
 hands_text rules by base =
-    limit_text (limit_of base) ++ pairs_text rules by base 1 ++ pairs_text rules by base 2 ++ pairs_text rules by base 3
-    ++ pairs_text rules by base 4
+    limit_hand_text (limit_of base) ++ counted_hands_text rules by base 1 ++ counted_hands_text rules by base 2 ++ counted_hands_text rules by base 3
+    ++ counted_hands_text rules by base 4
 
--- ---- a row of the table of payments
+-- ---- a price of the table of payments
 
 -- what is paid for so many base points, one yakuman at most, without counters, and each hand that has them
-abbrev pub base_text : Question → Way → ℕ → List ℕ
-base_text question way base =
-    payment_text (paid_for (min base 8000) (way_by way) (is_same question.player question.state.dealer) 0)
+abbrev pub base_price_text : Question → Way → ℕ → List ℕ
+base_price_text question way base =
+    payment_text (paid_for (min base 8000) (way_by way) (is_same_player question.player question.state.dealer) 0)
     ++ hands_text question.rules.hand (way_by way) base
 
-abbrev pub row_text : Question → Way → Option Row → List ℕ
-row_text question way None = codes "none"
-row_text question way (Some row) = base_text question way row.base
+abbrev pub price_text : Question → Way → Option Row → List ℕ
+price_text question way None = codes "none"
+price_text question way (Some row) = base_price_text question way row.base
 
 -- `from Bo strictly 3600 1.110 tie 3200 2.50 3.25`
 abbrev pub need_text : ByPlayer (List ℕ) → Question → Way → Need → List ℕ
 need_text names question way need =
-    way_text names way ++ codes " strictly " ++ row_text question way need.strictly ++ codes " tie " ++ row_text question way need.with_tie
+    way_text names way ++ codes " strictly " ++ price_text question way need.strictly ++ codes " tie " ++ price_text question way need.with_tie
 
 -- ---- the whole answer
 

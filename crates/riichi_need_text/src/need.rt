@@ -20,21 +20,21 @@ const MOST_ASKED: usize = "need ".len() + MOST_NAME + " place ".len() + MOST_U8;
 
 const MOST_PAYMENT: usize = MOST_U32 + "/".len() + MOST_U32;
 
-const MOST_PAIR: usize = " ".len() + MOST_U8 + ".".len() + MOST_U8;
+const MOST_COUNTED_HAND: usize = " ".len() + MOST_U8 + ".".len() + MOST_U8;
 
-const MOST_PAIRS: usize = 14 * MOST_PAIR;
+const MOST_COUNTED_HANDS: usize = 14 * MOST_COUNTED_HAND;
 
-const MOST_LIMIT: usize = " sanbaiman".len();
+const MOST_LIMIT_HAND: usize = " sanbaiman".len();
 
-const MOST_ROW: usize = MOST_PAYMENT + MOST_LIMIT + 4 * MOST_PAIRS;
+const MOST_PRICE: usize = MOST_PAYMENT + MOST_LIMIT_HAND + 4 * MOST_COUNTED_HANDS;
 
 /// The bytes of the longest line of what is needed.
 const MOST_NEED: usize = "from ".len()
     + MOST_NAME
     + " strictly ".len()
-    + MOST_ROW
+    + MOST_PRICE
     + " tie ".len()
-    + MOST_ROW;
+    + MOST_PRICE;
 
 /// The room of what a player needs: what is asked, and a line for each way of winning.
 pub const NEEDS_ROOM: usize = MOST_ASKED + 5 * ("\n".len() + MOST_NEED) + "\n".len();
@@ -124,9 +124,9 @@ fn push_need(text: &mut NeedsText, names: &Names, question: &Question, way: Way,
 {
     push_way(text, names, way);
     text.push_str(" strictly ");
-    push_row(text, question, way, &need.strictly);
+    push_price(text, question, way, &need.strictly);
     text.push_str(" tie ");
-    push_row(text, question, way, &need.with_tie);
+    push_price(text, question, way, &need.with_tie);
 }
 
 fn push_way(text: &mut NeedsText, names: &Names, way: Way)
@@ -151,30 +151,30 @@ fn push_from(text: &mut NeedsText, names: &Names, from: Player)
 }
 
 /// Writes a payment and the hands that pay so.
-fn push_row(text: &mut NeedsText, question: &Question, way: Way, row: &Option<Row>)
-    requires { array_string_len text.old + MOST_ROW ≤ NEEDS_ROOM }
-    ensures bytes { text.new.bytes ≡ text.old.bytes ++ spec.row_text question.now way row.now }
-    ensures len { array_string_len text.new ≤ array_string_len text.old + MOST_ROW }
+fn push_price(text: &mut NeedsText, question: &Question, way: Way, row: &Option<Row>)
+    requires { array_string_len text.old + MOST_PRICE ≤ NEEDS_ROOM }
+    ensures bytes { text.new.bytes ≡ text.old.bytes ++ spec.price_text question.now way row.now }
+    ensures len { array_string_len text.new ≤ array_string_len text.old + MOST_PRICE }
 {
     match row {
         None => text.push_str("none"),
-        Some(row) => push_base(text, question, way, row.base),
+        Some(row) => push_base_price(text, question, way, row.base),
     }
 }
 
-fn push_base(text: &mut NeedsText, question: &Question, way: Way, base: u32)
-    requires room { array_string_len text.old + MOST_ROW ≤ NEEDS_ROOM }
-    ensures bytes { text.new.bytes ≡ text.old.bytes ++ spec.base_text question.now way base }
-    ensures len { array_string_len text.new ≤ array_string_len text.old + MOST_ROW }
+fn push_base_price(text: &mut NeedsText, question: &Question, way: Way, base: u32)
+    requires room { array_string_len text.old + MOST_PRICE ≤ NEEDS_ROOM }
+    ensures bytes { text.new.bytes ≡ text.old.bytes ++ spec.base_price_text question.now way base }
+    ensures len { array_string_len text.new ≤ array_string_len text.old + MOST_PRICE }
 {
     let dealer = question.player.is(question.state.dealer);
     push_payment(text, &paid_for(base.min(8000), way.by(), dealer, 0));
-    push_limit(text, limit_of(base));
+    push_limit_hand(text, limit_of(base));
     let rules = question.rules.hand;
-    push_pairs(text, rules, way.by(), base, 1);
-    push_pairs(text, rules, way.by(), base, 2);
-    push_pairs(text, rules, way.by(), base, 3);
-    push_pairs(text, rules, way.by(), base, 4);
+    push_counted_hands(text, rules, way.by(), base, 1);
+    push_counted_hands(text, rules, way.by(), base, 2);
+    push_counted_hands(text, rules, way.by(), base, 3);
+    push_counted_hands(text, rules, way.by(), base, 4);
 }
 
 /// Writes a payment as the answer to a win has it.
@@ -198,10 +198,10 @@ fn push_payment(text: &mut NeedsText, payment: &Payment)
 }
 
 /// Writes the name of a limit hand behind a space, where there is one.
-fn push_limit(text: &mut NeedsText, hand: Option<LimitHand>)
-    requires { array_string_len text.old + MOST_LIMIT ≤ NEEDS_ROOM }
-    ensures bytes { text.new.bytes ≡ text.old.bytes ++ spec.limit_text hand }
-    ensures len { array_string_len text.new ≤ array_string_len text.old + MOST_LIMIT }
+fn push_limit_hand(text: &mut NeedsText, hand: Option<LimitHand>)
+    requires { array_string_len text.old + MOST_LIMIT_HAND ≤ NEEDS_ROOM }
+    ensures bytes { text.new.bytes ≡ text.old.bytes ++ spec.limit_hand_text hand }
+    ensures len { array_string_len text.new ≤ array_string_len text.old + MOST_LIMIT_HAND }
 {
     match hand {
         None => {}
@@ -214,21 +214,28 @@ fn push_limit(text: &mut NeedsText, hand: Option<LimitHand>)
 }
 
 /// Writes each hand of so many han that has these base points, by its han and fu.
-fn push_pairs(text: &mut NeedsText, rules: Rules, by: By, base: u32, han: u8)
-    requires { array_string_len text.old + MOST_PAIRS ≤ NEEDS_ROOM }
-    ensures bytes { text.new.bytes ≡ text.old.bytes ++ spec.pairs_text rules by base han }
-    ensures len { array_string_len text.new ≤ array_string_len text.old + MOST_PAIRS }
+fn push_counted_hands(text: &mut NeedsText, rules: Rules, by: By, base: u32, han: u8)
+    requires { array_string_len text.old + MOST_COUNTED_HANDS ≤ NEEDS_ROOM }
+    ensures bytes { text.new.bytes ≡ text.old.bytes ++ spec.counted_hands_text rules by base han }
+    ensures len { array_string_len text.new ≤ array_string_len text.old + MOST_COUNTED_HANDS }
 {
-    push_pairs_of(text, rules, by, base, han, &ALL_FU);
+    push_counted_hands_of(text, rules, by, base, han, &ALL_FU);
 }
 
 /// The same of these fu.
-fn push_pairs_of(text: &mut NeedsText, rules: Rules, by: By, base: u32, han: u8, all_fu: &[u8])
-    requires { array_string_len text.old + length all_fu.now * MOST_PAIR ≤ NEEDS_ROOM }
+fn push_counted_hands_of(
+    text: &mut NeedsText,
+    rules: Rules,
+    by: By,
+    base: u32,
+    han: u8,
+    all_fu: &[u8],
+)
+    requires { array_string_len text.old + length all_fu.now * MOST_COUNTED_HAND ≤ NEEDS_ROOM }
     ensures bytes { text.new.bytes
-        ≡ text.old.bytes ++ flat_map (spec.pair_text rules by base han) all_fu.now }
+        ≡ text.old.bytes ++ flat_map (spec.counted_hand_text rules by base han) all_fu.now }
     ensures len { array_string_len text.new
-        ≤ array_string_len text.old + length all_fu.now * MOST_PAIR }
+        ≤ array_string_len text.old + length all_fu.now * MOST_COUNTED_HAND }
 {
     for fu in all_fu {
         push_if_paid(text, rules, by, base, han, *fu);
@@ -236,9 +243,9 @@ fn push_pairs_of(text: &mut NeedsText, rules: Rules, by: By, base: u32, han: u8,
 }
 
 fn push_if_paid(text: &mut NeedsText, rules: Rules, by: By, base: u32, han: u8, fu: u8)
-    requires { array_string_len text.old + MOST_PAIR ≤ NEEDS_ROOM }
-    ensures bytes { text.new.bytes ≡ text.old.bytes ++ spec.pair_text rules by base han fu }
-    ensures len { array_string_len text.new ≤ array_string_len text.old + MOST_PAIR }
+    requires { array_string_len text.old + MOST_COUNTED_HAND ≤ NEEDS_ROOM }
+    ensures bytes { text.new.bytes ≡ text.old.bytes ++ spec.counted_hand_text rules by base han fu }
+    ensures len { array_string_len text.new ≤ array_string_len text.old + MOST_COUNTED_HAND }
 {
     if pays_so(rules, by, base, han, fu) {
         text.push_str(" ");

@@ -4,7 +4,7 @@ use Rattle.std.specs.Prelude.{int_lt, nat_lt}
 use Rattle.std.specs.Ordering.{int_eq}
 use Rattle.std.proofs.lemmas.Int.{ints}
 use Rattle.std.proofs.lemmas.Bool.Decides.{nat_tests}
-use Rattle.riichi_table.specs.Players.{of_player, one_if}
+use Rattle.riichi_table.specs.Players.{of_player, one_where}
 use Rattle.riichi_table.specs.declared.player.Player.{Player}
 use Rattle.riichi_table.specs.declared.player.Player.TheVariants.{First, Second, Third, Fourth}
 use Rattle.riichi_table.specs.declared.player.ByPlayer.{ByPlayer}
@@ -28,7 +28,7 @@ level_with_self ties points player = ap (λ ahead. not ahead && not ahead) (not_
 
 pub some_sharer : (ties : Ties) (points : ByPlayer ℤ) (player : Player) → 0 < sharers_of ties points player
 unfolding sharers_of
-some_sharer ties points First = let e = ap one_if (level_with_self ties points First) in omega (arith, e)
-some_sharer ties points Second = let e = ap one_if (level_with_self ties points Second) in omega (arith, e)
-some_sharer ties points Third = let e = ap one_if (level_with_self ties points Third) in omega (arith, e)
-some_sharer ties points Fourth = let e = ap one_if (level_with_self ties points Fourth) in omega (arith, e)
+some_sharer ties points First = let e = ap one_where (level_with_self ties points First) in omega (arith, e)
+some_sharer ties points Second = let e = ap one_where (level_with_self ties points Second) in omega (arith, e)
+some_sharer ties points Third = let e = ap one_where (level_with_self ties points Third) in omega (arith, e)
+some_sharer ties points Fourth = let e = ap one_where (level_with_self ties points Fourth) in omega (arith, e)

@@ -2,7 +2,7 @@
 use Rattle.std.proofs.Common.{◌≡◌, ℕ, ◌+◌, ◌*◌, Bool, true, false, ◌||◌, ℤ, pos, ◌+ℤ◌, ◌-ℤ◌, if◌then◌else◌, ap, refl, ◌∙◌, arith}
 use Rattle.std.specs.Prelude.{◌==◌}
 use Rattle.std.proofs.lemmas.Int.{ints}
-use Rattle.riichi_table.specs.Players.{of_player, one_if, sum_over_players}
+use Rattle.riichi_table.specs.Players.{of_player, one_where, sum_over_players}
 use Rattle.riichi_table.specs.RulesFaults.{uma_sum}
 use Rattle.riichi_table.specs.declared.player.Player.TheVariants.{First, Second, Third, Fourth}
 use Rattle.riichi_table.specs.declared.player.Player.{Player}
@@ -41,9 +41,9 @@ sticks_go_once rules state =
     let qr = is_ahead_in_order points order.two order.three order.second in
     let rs = is_ahead_in_order points order.three order.four order.third in
     let one = with_sticks rules state order.one true (first_by points order.one _ true stand.one.ahead refl) in
-    let two = with_sticks rules state order.two false (first_by points order.two _ false stand.two.ahead (λ k. 1 + one_if (pq k) == 1)) in
-    let three = with_sticks rules state order.three false (first_by points order.three _ false stand.three.ahead (λ k. 1 + (one_if (pq k || qr k) + one_if (qr k)) == 1)) in
-    let last = with_sticks rules state order.four false (first_by points order.four _ false stand.four.ahead (λ k. 1 + (one_if (pq k || qr k || rs k) + one_if (qr k || rs k) + one_if (rs k)) == 1)) in
+    let two = with_sticks rules state order.two false (first_by points order.two _ false stand.two.ahead (λ k. 1 + one_where (pq k) == 1)) in
+    let three = with_sticks rules state order.three false (first_by points order.three _ false stand.three.ahead (λ k. 1 + (one_where (pq k || qr k) + one_where (qr k)) == 1)) in
+    let last = with_sticks rules state order.four false (first_by points order.four _ false stand.four.ahead (λ k. 1 + (one_where (pq k || qr k || rs k) + one_where (qr k || rs k) + one_where (rs k)) == 1)) in
     order.all.1 (settled rules state) ∙ (λ k. one k +ℤ two k +ℤ three k +ℤ last k)
     ∙ one_has_more (of_player points order.one) (of_player points order.two) (of_player points order.three) (of_player points order.four)
     (sum_over_players (of_player points)) (for_sticks rules.left state.sticks) (order.all.1 (of_player points))

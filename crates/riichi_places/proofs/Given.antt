@@ -4,7 +4,7 @@ use Rattle.std.specs.Prelude.{int_lt, nat_lt, ◌<ℤ◌}
 use Rattle.std.specs.Ordering.{int_eq}
 use Rattle.std.proofs.lemmas.Int.{ints}
 use Rattle.std.proofs.lemmas.Bool.Decides.{nat_tests}
-use Rattle.riichi_table.specs.Players.{of_player, one_if}
+use Rattle.riichi_table.specs.Players.{of_player, one_where}
 use Rattle.riichi_table.specs.RulesFaults.{uma_sum}
 use Rattle.riichi_table.specs.declared.player.Player.{Player}
 use Rattle.riichi_table.specs.declared.player.ByPlayer.{ByPlayer}
@@ -108,8 +108,8 @@ pub record Stands (ties : Ties) (points : ByPlayer ℤ) (player : Player) (above
   pub sharers : sharers_of ties points player ≡ beside
   pub earlier : earlier_of ties points player ≡ seated
 
-four : {a b c d e f g h : Bool} → a ≡ e → b ≡ f → c ≡ g → d ≡ h → one_if a + one_if b + one_if c + one_if d ≡ one_if e + one_if f + one_if g + one_if h
-four p q r s = λ k. one_if (p k) + one_if (q k) + one_if (r k) + one_if (s k)
+four : {a b c d e f g h : Bool} → a ≡ e → b ≡ f → c ≡ g → d ≡ h → one_where a + one_where b + one_where c + one_where d ≡ one_where e + one_where f + one_where g + one_where h
+four p q r s = λ k. one_where (p k) + one_where (q k) + one_where (r k) + one_where (s k)
 
 not_earlier_than_self : (ties : Ties) (points : ByPlayer ℤ) (player : Player) → (is_level ties points player player && is_before player player) ≡ false
 not_earlier_than_self ties points player = ap (λ level. level && is_before player player) (level_with_self ties points player) ∙ not_less (seat_number player)
@@ -119,10 +119,10 @@ not_earlier_than_self ties points player = ap (λ level. level && is_before play
 
 -- the four in their order, by whether each is ahead of the next
 pub record Standings (ties : Ties) (points : ByPlayer ℤ) (order : Order points) (pq qr rs : Bool) : Type 0 where
-  pub one : Stands ties points order.one 0 (1 + one_if (not pq) + one_if (not (pq || qr)) + one_if (not (pq || qr || rs))) 0
-  pub two : Stands ties points order.two (one_if pq) (one_if (not pq) + 1 + one_if (not qr) + one_if (not (qr || rs))) (one_if (not pq))
-  pub three : Stands ties points order.three (one_if (pq || qr) + one_if qr) (one_if (not (pq || qr)) + one_if (not qr) + 1 + one_if (not rs)) (one_if (not (pq || qr)) + one_if (not qr))
-  pub four : Stands ties points order.four (one_if (pq || qr || rs) + one_if (qr || rs) + one_if rs) (one_if (not (pq || qr || rs)) + one_if (not (qr || rs)) + one_if (not rs) + 1) (one_if (not (pq || qr || rs)) + one_if (not (qr || rs)) + one_if (not rs))
+  pub one : Stands ties points order.one 0 (1 + one_where (not pq) + one_where (not (pq || qr)) + one_where (not (pq || qr || rs))) 0
+  pub two : Stands ties points order.two (one_where pq) (one_where (not pq) + 1 + one_where (not qr) + one_where (not (qr || rs))) (one_where (not pq))
+  pub three : Stands ties points order.three (one_where (pq || qr) + one_where qr) (one_where (not (pq || qr)) + one_where (not qr) + 1 + one_where (not rs)) (one_where (not (pq || qr)) + one_where (not qr))
+  pub four : Stands ties points order.four (one_where (pq || qr || rs) + one_where (qr || rs) + one_where rs) (one_where (not (pq || qr || rs)) + one_where (not (qr || rs)) + one_where (not rs) + 1) (one_where (not (pq || qr || rs)) + one_where (not (qr || rs)) + one_where (not rs))
 
 pub standings : (ties : Ties) (points : ByPlayer ℤ) (order : Order points)
     → Standings ties points order (is_ahead ties points order.one order.two) (is_ahead ties points order.two order.three) (is_ahead ties points order.three order.four)
@@ -139,9 +139,9 @@ standings ties points order =
     let pr = pair_of ties points p r (apq || aqr) bpr (joined ties points p q r order.first order.second) in
     let qs = pair_of ties points q s (aqr || ars) bqs (joined ties points q r s order.second order.third) in
     let ps = pair_of ties points p s (apq || aqr || ars) bps (joined ties points p r s bpr order.third ∙ ap (λ x. x || ars) pr.ahead) in
-    let ahead = λ (player : Player) (other : Player). one_if (is_ahead ties points other player) in
-    let level = λ (player : Player) (other : Player). one_if (is_level ties points other player) in
-    let earlier = λ (player : Player) (other : Player). one_if (is_level ties points other player && is_before other player) in
+    let ahead = λ (player : Player) (other : Player). one_where (is_ahead ties points other player) in
+    let level = λ (player : Player) (other : Player). one_where (is_level ties points other player) in
+    let earlier = λ (player : Player) (other : Player). one_where (is_level ties points other player && is_before other player) in
     let self = not_ahead_of_self ties points in
     let same = level_with_self ties points in
     let none = not_earlier_than_self ties points in
@@ -171,10 +171,10 @@ standings ties points order =
 -- ---- the bonuses by how the four stand
 
 all_given : (rules : TableRules) (pq qr rs : Bool) →
-    shared_bonus rules (1 + 0) (1 + one_if (not pq) + one_if (not (pq || qr)) + one_if (not (pq || qr || rs))) 0
-    +ℤ shared_bonus rules (1 + one_if pq) (one_if (not pq) + 1 + one_if (not qr) + one_if (not (qr || rs))) (one_if (not pq))
-    +ℤ shared_bonus rules (1 + (one_if (pq || qr) + one_if qr)) (one_if (not (pq || qr)) + one_if (not qr) + 1 + one_if (not rs)) (one_if (not (pq || qr)) + one_if (not qr))
-    +ℤ shared_bonus rules (1 + (one_if (pq || qr || rs) + one_if (qr || rs) + one_if rs)) (one_if (not (pq || qr || rs)) + one_if (not (qr || rs)) + one_if (not rs) + 1) (one_if (not (pq || qr || rs)) + one_if (not (qr || rs)) + one_if (not rs))
+    shared_bonus rules (1 + 0) (1 + one_where (not pq) + one_where (not (pq || qr)) + one_where (not (pq || qr || rs))) 0
+    +ℤ shared_bonus rules (1 + one_where pq) (one_where (not pq) + 1 + one_where (not qr) + one_where (not (qr || rs))) (one_where (not pq))
+    +ℤ shared_bonus rules (1 + (one_where (pq || qr) + one_where qr)) (one_where (not (pq || qr)) + one_where (not qr) + 1 + one_where (not rs)) (one_where (not (pq || qr)) + one_where (not qr))
+    +ℤ shared_bonus rules (1 + (one_where (pq || qr || rs) + one_where (qr || rs) + one_where rs)) (one_where (not (pq || qr || rs)) + one_where (not (qr || rs)) + one_where (not rs) + 1) (one_where (not (pq || qr || rs)) + one_where (not (qr || rs)) + one_where (not rs))
     ≡ uma_sum rules.uma +ℤ returned rules
 unfolding shared_bonus bonuses bonus_if_taken place_bonus uma_sum
 all_given rules true true true = omega (arith, ints, one_part (bonuses rules 1 1), one_part (bonuses rules 2 1), one_part (bonuses rules 3 1), one_part (bonuses rules 4 1))

@@ -4,25 +4,25 @@ use Rattle.std.specs.Prelude.{int_lt, nat_lt, ◌<ℤ◌, ◌≤ℤ◌}
 use Rattle.std.specs.Ordering.{int_eq}
 use Rattle.std.proofs.lemmas.Int.{ints}
 use Rattle.std.proofs.lemmas.Bool.Decides.{nat_tests}
-use Rattle.riichi_table.specs.Players.{of_player, one_if, count_of}
+use Rattle.riichi_table.specs.Players.{of_player, one_where, count_players}
 use Rattle.riichi_table.specs.declared.player.Player.{Player}
 use Rattle.riichi_table.specs.declared.player.Player.TheVariants.{First, Second, Third, Fourth}
 use Rattle.riichi_table.specs.declared.player.ByPlayer.{ByPlayer}
 use Rattle.riichi_table.specs.declared.rules.Ties.{Ties}
 use Rattle.riichi_table.specs.declared.rules.Ties.TheVariants.{Share, Seat}
-use Rattle.riichi_places.specs.Places.{seat_number, is_ahead, is_level, ahead_of, sharers_of, earlier_of, place_of}
+use Rattle.riichi_places.specs.Places.{seat_number, is_ahead, is_level, ahead_of, sharers_of, earlier_of, place_by_points}
 use Rattle.riichi_places.specs.Bonuses.{bonuses, part_of, shared_bonus, bonus_of}
 use Rattle.riichi_places.specs.Laws.{EqualPointsShare, MorePointsAreAhead, AreWithinAHundred}
 use Rattle.riichi_places.proofs.Counts.{some_sharer}
 
 same_ahead : (points : ByPlayer ℤ) (one other : Player) → of_player points one ≡ of_player points other → ahead_of Share points one ≡ ahead_of Share points other
 unfolding ahead_of
-same_ahead points one other e = ap (λ x. count_of (λ player. int_lt x (of_player points player))) e
+same_ahead points one other e = ap (λ x. count_players (λ player. int_lt x (of_player points player))) e
 
 same_sharers : (points : ByPlayer ℤ) (one other : Player) → of_player points one ≡ of_player points other → sharers_of Share points one ≡ sharers_of Share points other
 unfolding sharers_of
 same_sharers points one other e =
-    ap (λ x. count_of (λ player. not (int_lt x (of_player points player)) && not (int_lt (of_player points player) x))) e
+    ap (λ x. count_players (λ player. not (int_lt x (of_player points player)) && not (int_lt (of_player points player) x))) e
 
 within : (points : ℤ) (sharers one other : ℕ) → part_of points sharers one ≤ℤ (part_of points sharers other +ℤ pos 100)
 unfolding part_of
@@ -39,7 +39,7 @@ equal_points_share rules points one other ties e =
     let i = earlier_of rules.ties points one in
     let j = earlier_of rules.ties points other in
     let number = sharers_of rules.ties points other in
-    let all = bonuses rules (place_of rules.ties points other) number in
+    let all = bonuses rules (place_by_points rules.ties points other) number in
     let same : bonus_of rules points one ≡ part_of all number i = λ k. part_of (bonuses rules (1 + ahead k) (sharers k)) (sharers k) i in (
       ap (λ n. 1 + n) ahead,
       subst (λ (x : ℤ). AreWithinAHundred x (part_of all number j)) (sym same) (within all number i j, within all number j i),
@@ -49,15 +49,15 @@ equal_points_share rules points one other ties e =
 
 -- who is ahead of or level with one is ahead of another with fewer points, and nobody is both
 up_to_by_seat : (x y z : ℤ) (l m n : ℕ) → y <ℤ x
-    → one_if (int_lt x z || (int_eq z x && nat_lt l m)) + one_if (not (int_lt x z || (int_eq z x && nat_lt l m)) && not (int_lt z x || (int_eq x z && nat_lt m l)))
-    ≤ one_if (int_lt y z || (int_eq z y && nat_lt l n))
+    → one_where (int_lt x z || (int_eq z x && nat_lt l m)) + one_where (not (int_lt x z || (int_eq z x && nat_lt l m)) && not (int_lt z x || (int_eq x z && nat_lt m l)))
+    ≤ one_where (int_lt y z || (int_eq z y && nat_lt l n))
 up_to_by_seat x y z l m n h = grind (arith, ints, nat_tests)
 
-up_to_by_points : (x y z : ℤ) → y <ℤ x → one_if (int_lt x z) + one_if (not (int_lt x z) && not (int_lt z x)) ≤ one_if (int_lt y z)
+up_to_by_points : (x y z : ℤ) → y <ℤ x → one_where (int_lt x z) + one_where (not (int_lt x z) && not (int_lt z x)) ≤ one_where (int_lt y z)
 up_to_by_points x y z h = grind (arith, ints)
 
 up_to : (ties : Ties) (points : ByPlayer ℤ) (one other player : Player) → of_player points other <ℤ of_player points one
-    → one_if (is_ahead ties points player one) + one_if (is_level ties points player one) ≤ one_if (is_ahead ties points player other)
+    → one_where (is_ahead ties points player one) + one_where (is_level ties points player one) ≤ one_where (is_ahead ties points player other)
 up_to Share points one other player h = up_to_by_points (of_player points one) (of_player points other) (of_player points player) h
 up_to Seat points one other player h = up_to_by_seat (of_player points one) (of_player points other) (of_player points player) (seat_number player) (seat_number one) (seat_number other) h
 
@@ -72,7 +72,7 @@ sharers_are_ahead ties points one other h =
     let d = up_to ties points one other Fourth h in
     omega (arith, a, b, c, d)
 
-not_both : (a b : Bool) → one_if a + one_if (not a && b) ≤ 1
+not_both : (a b : Bool) → one_where a + one_where (not a && b) ≤ 1
 not_both true b = omega arith
 not_both false true = omega arith
 not_both false false = omega arith

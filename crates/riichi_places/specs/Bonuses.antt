@@ -3,7 +3,7 @@ use Rattle.std.specs.Prelude.{ℕ, ◌+◌, ◌-◌, ◌*◌, ◌/◌, ◌%◌, 
 use Rattle.riichi_table.specs.declared.player.Player.{Player}
 use Rattle.riichi_table.specs.declared.player.ByPlayer.{ByPlayer}
 use Rattle.riichi_table.specs.declared.rules.TableRules.{TableRules}
-use Rattle.riichi_places.specs.Places.{place_of, sharers_of, earlier_of}
+use Rattle.riichi_places.specs.Places.{place_by_points, sharers_of, earlier_of}
 
 -- what the four return beyond what they started with (oka)
 abbrev pub returned : TableRules → ℤ
@@ -50,4 +50,4 @@ shared_bonus rules place sharers earlier = part_of (bonuses rules place sharers)
 -- the bonus of a player, by the points of the four
 abbrev pub bonus_of : TableRules → ByPlayer ℤ → Player → ℤ
 bonus_of rules points player =
-    shared_bonus rules (place_of rules.ties points player) (sharers_of rules.ties points player) (earlier_of rules.ties points player)
+    shared_bonus rules (place_by_points rules.ties points player) (sharers_of rules.ties points player) (earlier_of rules.ties points player)

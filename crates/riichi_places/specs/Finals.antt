@@ -7,7 +7,7 @@ use Rattle.riichi_table.specs.declared.rules.LeftSticks.{LeftSticks}
 use Rattle.riichi_table.specs.declared.rules.LeftSticks.TheVariants as left
 use Rattle.riichi_table.specs.declared.rules.TableRules.{TableRules}
 use Rattle.riichi_table.specs.declared.state.GameState.{GameState}
-use Rattle.riichi_places.specs.Places.{place_of, is_first}
+use Rattle.riichi_places.specs.Places.{place_by_points, is_first}
 use Rattle.riichi_places.specs.Bonuses.{bonus_of}
 use Rattle.riichi_places.specs.declared.finals.FinalPoints.{FinalPoints}
 
@@ -30,7 +30,7 @@ before_penalties rules points player = (of_player points player -ℤ pos rules.r
 
 abbrev pub final_of : TableRules → ByPlayer ℤ → ByPlayer ℕ → Player → FinalPoints
 final_of rules points penalties player = record {
-  place = place_of rules.ties points player;
+  place = place_by_points rules.ties points player;
   points = of_player points player;
   bonus = bonus_of rules points player;
   penalty = of_player penalties player;

@@ -7,7 +7,7 @@ use Rattle.riichi_table.specs.declared.player.ByPlayer.{ByPlayer}
 use Rattle.riichi_table.specs.declared.rules.Ties.TheVariants.{Share}
 use Rattle.riichi_table.specs.declared.rules.TableRules.{TableRules}
 use Rattle.riichi_table.specs.declared.state.GameState.{GameState}
-use Rattle.riichi_places.specs.Places.{place_of}
+use Rattle.riichi_places.specs.Places.{place_by_points}
 use Rattle.riichi_places.specs.Bonuses.{bonus_of, place_bonus, returned}
 use Rattle.riichi_places.specs.Finals.{settled, points_at_end, for_sticks, before_penalties, final_of}
 
@@ -37,13 +37,13 @@ AreWithinAHundred one other = (one ≤ℤ (other +ℤ pos 100)) × (other ≤ℤ
 abbrev pub EqualPointsShare : Type 0
 EqualPointsShare = (rules : TableRules) (points : ByPlayer ℤ) (one other : Player) →
     rules.ties ≡ Share → of_player points one ≡ of_player points other →
-    (place_of rules.ties points one ≡ place_of rules.ties points other)
+    (place_by_points rules.ties points one ≡ place_by_points rules.ties points other)
     × AreWithinAHundred (bonus_of rules points one) (bonus_of rules points other)
 
 -- more points have an earlier place
 abbrev pub MorePointsAreAhead : Type 0
 MorePointsAreAhead = (rules : TableRules) (points : ByPlayer ℤ) (one other : Player) →
-    of_player points other <ℤ of_player points one → place_of rules.ties points one < place_of rules.ties points other
+    of_player points other <ℤ of_player points one → place_by_points rules.ties points one < place_by_points rules.ties points other
 
 -- whole hundreds, up or down
 abbrev pub IsHundreds : ℤ → Type 0

@@ -1,7 +1,7 @@
 -- The places of four players by their points.
 use Rattle.std.specs.Prelude.{ℕ, ◌+◌, Bool, not, ◌&&◌, ◌||◌, ◌==◌, nat_lt, int_lt, ℤ}
 use Rattle.std.specs.Ordering.{int_eq}
-use Rattle.riichi_table.specs.Players.{of_player, count_of}
+use Rattle.riichi_table.specs.Players.{of_player, count_players}
 use Rattle.riichi_table.specs.declared.player.Player.{Player}
 use Rattle.riichi_table.specs.declared.player.Player.TheVariants.{First, Second, Third, Fourth}
 use Rattle.riichi_table.specs.declared.player.ByPlayer.{ByPlayer}
@@ -36,20 +36,20 @@ is_level ties points one other = not (is_ahead ties points one other) && not (is
 
 -- how many are ahead of a player
 unfoldable pub ahead_of : Ties → ByPlayer ℤ → Player → ℕ
-ahead_of ties points player = count_of (λ other. is_ahead ties points other player)
+ahead_of ties points player = count_players (λ other. is_ahead ties points other player)
 
 -- one more than are ahead: so equal points have the same place where they share, as in 1 2 2 4
-abbrev pub place_of : Ties → ByPlayer ℤ → Player → ℕ
-place_of ties points player = 1 + ahead_of ties points player
+abbrev pub place_by_points : Ties → ByPlayer ℤ → Player → ℕ
+place_by_points ties points player = 1 + ahead_of ties points player
 
 -- how many have the player's place
 unfoldable pub sharers_of : Ties → ByPlayer ℤ → Player → ℕ
-sharers_of ties points player = count_of (λ other. is_level ties points other player)
+sharers_of ties points player = count_players (λ other. is_level ties points other player)
 
 -- how many of these have an earlier first seat than the player
 unfoldable pub earlier_of : Ties → ByPlayer ℤ → Player → ℕ
-earlier_of ties points player = count_of (λ other. is_level ties points other player && is_before other player)
+earlier_of ties points player = count_players (λ other. is_level ties points other player && is_before other player)
 
 -- nobody has more points, and nobody with as many an earlier first seat
 abbrev pub is_first : ByPlayer ℤ → Player → Bool
-is_first points player = place_of Seat points player == 1
+is_first points player = place_by_points Seat points player == 1

@@ -7,7 +7,7 @@ use riichi_table::{ByPlayer, Player, Ties};
 /// The place of a player, from 1 to 4: one more than are ahead. Under [`Ties::Share`] equal points have the same place.
 #[tactic(auto, unfolding(crate::specs::Places::ahead_of))]
 pub fn place(points: &ByPlayer<i64>, ties: Ties, player: Player) -> u8
-    ensures value { result ≡ spec.place_of ties points.now player }
+    ensures value { result ≡ spec.place_by_points ties points.now player }
     ensures most { result ≤ 5 }
 {
     let ahead = ByPlayer {

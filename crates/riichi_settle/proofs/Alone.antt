@@ -1,7 +1,7 @@
 -- What is moved where one wins alone, with no bet in the deal and nobody liable.
 use Rattle.std.proofs.Common.{◌≡◌, ℕ, ◌+◌, ◌-◌, Bool, true, false, List, [], ◌++◌, Option, None, refl, ◌∙◌, ap, arith, if◌then◌else◌}
 use Rattle.std.proofs.lemmas.List.{append-nil}
-use Rattle.riichi_table.specs.Players.{of_player, is_same, count_of, with_player, same_for_all}
+use Rattle.riichi_table.specs.Players.{of_player, is_same_player, count_players, with_player, same_for_all}
 use Rattle.riichi_table.specs.declared.player.Player.{Player}
 use Rattle.riichi_table.specs.declared.player.Player.TheVariants.{First, Second, Third, Fourth}
 use Rattle.riichi_table.specs.declared.player.ByPlayer.{ByPlayer}
@@ -18,15 +18,15 @@ use Rattle.riichi_table.specs.declared.outcome.Win.{Win}
 use Rattle.riichi_table.specs.declared.outcome.Outcome.TheVariants.{Ron}
 use Rattle.riichi_settle.specs.Moves.{taken, bets}
 use Rattle.riichi_settle.specs.Winners.{nearest, nearest_alone, two_at_most, ron_as_played}
-use Rattle.riichi_settle.specs.Wins.{ordinary_ron, won, counters_for, win_moves, ron_moves, own_bets, own_taken, sticks_won, drawn, tsumo_moves}
+use Rattle.riichi_settle.specs.Wins.{ordinary_ron, one_ron, counters_for, win_moves, ron_moves, own_bets, own_taken, sticks_won, drawn, tsumo_moves}
 use Rattle.riichi_settle.specs.Settled.{sticks_lying, moves_as_played, moves_of}
-use Rattle.riichi_settle.specs.Laws.{nobody, plain, only, lone_ron, lone_tsumo}
+use Rattle.riichi_settle.specs.Laws.{nobody, plain, lone_win, lone_ron, lone_tsumo}
 use Rattle.riichi_settle.specs.declared.moved.Move.{Move}
 use Rattle.riichi_settle.specs.declared.moved.Reason.TheVariants as why
 use Rattle.riichi_settle.specs.declared.moved.Taking.TheVariants as taking
 
 -- who wins alone is the nearest
-nearest-only : (from winner : Player) (worth : Worth) → is_same from winner ≡ false → nearest from (only winner worth) ≡ winner
+nearest-only : (from winner : Player) (worth : Worth) → is_same_player from winner ≡ false → nearest from (lone_win winner worth) ≡ winner
 unfolding nearest
 nearest-only First First worth apart = absurd (cc)
 nearest-only First Second worth apart = refl
@@ -45,69 +45,69 @@ nearest-only Fourth Second worth apart = refl
 nearest-only Fourth Third worth apart = refl
 nearest-only Fourth Fourth worth apart = absurd (cc)
 
-alone-at : (winner : Player) (worth : Worth) → with_player (same_for_all None) winner (of_player (only winner worth) winner) ≡ only winner worth
+alone-at : (winner : Player) (worth : Worth) → with_player (same_for_all None) winner (of_player (lone_win winner worth) winner) ≡ lone_win winner worth
 alone-at First worth = refl
 alone-at Second worth = refl
 alone-at Third worth = refl
 alone-at Fourth worth = refl
 
-two-only : (from winner : Player) (worth : Worth) → two_at_most from (only winner worth) nobody ≡ lone_ron from winner worth
+two-only : (from winner : Player) (worth : Worth) → two_at_most from (lone_win winner worth) nobody ≡ lone_ron from winner worth
 two-only from First worth = refl
 two-only from Second worth = refl
 two-only from Third worth = refl
 two-only from Fourth worth = refl
 
-nearest_alone-only : (from winner : Player) (worth : Worth) → is_same from winner ≡ false → nearest_alone from (only winner worth) ≡ only winner worth
+nearest_alone-only : (from winner : Player) (worth : Worth) → is_same_player from winner ≡ false → nearest_alone from (lone_win winner worth) ≡ lone_win winner worth
 unfolding nearest_alone
 nearest_alone-only from winner worth apart =
-    ap (λ (player : Player). with_player (same_for_all None) player (of_player (only winner worth) player)) (nearest-only from winner worth apart) ∙ alone-at winner worth
+    ap (λ (player : Player). with_player (same_for_all None) player (of_player (lone_win winner worth) player)) (nearest-only from winner worth apart) ∙ alone-at winner worth
 
 -- so it is played as it is, whatever the rules say of several
-played-alone : (ron : SeveralWinners) (from winner : Player) (worth : Worth) → is_same from winner ≡ false
-    → ron_as_played ron from (only winner worth) nobody ≡ lone_ron from winner worth
+played-alone : (ron : SeveralWinners) (from winner : Player) (worth : Worth) → is_same_player from winner ≡ false
+    → ron_as_played ron from (lone_win winner worth) nobody ≡ lone_ron from winner worth
 unfolding ron_as_played
 played-alone All from winner worth apart = refl
 played-alone Nearest from winner worth apart = ap (λ (wins : ByPlayer (Option Win)). Ron from wins nobody) (nearest_alone-only from winner worth apart)
 played-alone Two from winner worth apart = two-only from winner worth
 
-is_same-own : (player : Player) → is_same player player ≡ true
+is_same-own : (player : Player) → is_same_player player player ≡ true
 is_same-own First = refl
 is_same-own Second = refl
 is_same-own Third = refl
 is_same-own Fourth = refl
 
 -- the counters go to this winner
-own-counters : (counters : ℕ) (to : CountersTo) (from winner : Player) (worth : Worth) → is_same from winner ≡ false
-    → counters_for counters to from (only winner worth) winner ≡ counters
+own-counters : (counters : ℕ) (to : CountersTo) (from winner : Player) (worth : Worth) → is_same_player from winner ≡ false
+    → counters_for counters to from (lone_win winner worth) winner ≡ counters
 own-counters counters counters_to.Each from winner worth apart = refl
 own-counters counters counters_to.Nearest from winner worth apart =
-    ap (λ (player : Player). if is_same winner player then counters else 0) (nearest-only from winner worth apart)
+    ap (λ (player : Player). if is_same_player winner player then counters else 0) (nearest-only from winner worth apart)
     ∙ ap (λ (same : Bool). if same then counters else 0) (is_same-own winner)
 
 -- nobody else is paid
 paid-alone : (state : GameState) (to : CountersTo) (from winner : Player) (worth : Worth)
-    → ron_moves state to from (only winner worth)
-    ≡ ordinary_ron state.dealer from winner (counters_for state.counters to from (only winner worth) winner) worth
-unfolding ron_moves win_moves won
+    → ron_moves state to from (lone_win winner worth)
+    ≡ ordinary_ron state.dealer from winner (counters_for state.counters to from (lone_win winner worth) winner) worth
+unfolding ron_moves win_moves one_ron
 paid-alone state to from First worth =
-    let list = ordinary_ron state.dealer from First (counters_for state.counters to from (only First worth) First) worth in
+    let list = ordinary_ron state.dealer from First (counters_for state.counters to from (lone_win First worth) First) worth in
     append-nil (list ++ [] ++ []) ∙ append-nil (list ++ []) ∙ append-nil list
 paid-alone state to from Second worth =
-    let list = ordinary_ron state.dealer from Second (counters_for state.counters to from (only Second worth) Second) worth in
+    let list = ordinary_ron state.dealer from Second (counters_for state.counters to from (lone_win Second worth) Second) worth in
     append-nil (list ++ []) ∙ append-nil list
 paid-alone state to from Third worth =
-    append-nil (ordinary_ron state.dealer from Third (counters_for state.counters to from (only Third worth) Third) worth)
+    append-nil (ordinary_ron state.dealer from Third (counters_for state.counters to from (lone_win Third worth) Third) worth)
 paid-alone state to from Fourth worth = refl
 
 -- nobody takes an own bet back
-no-own : (winner : Player) (worth : Worth) → own_taken (own_bets (only winner worth) nobody) ≡ []
+no-own : (winner : Player) (worth : Worth) → own_taken (own_bets (lone_win winner worth) nobody) ≡ []
 unfolding own_taken
 no-own First worth = refl
 no-own Second worth = refl
 no-own Third worth = refl
 no-own Fourth worth = refl
 
-no-own-count : (winner : Player) (worth : Worth) → count_of (of_player (own_bets (only winner worth) nobody)) ≡ 0
+no-own-count : (winner : Player) (worth : Worth) → count_players (of_player (own_bets (lone_win winner worth) nobody)) ≡ 0
 no-own-count First worth = refl
 no-own-count Second worth = refl
 no-own-count Third worth = refl
@@ -117,16 +117,16 @@ taken-at : (one winner : Player) (count sticks : ℕ) → one ≡ winner → cou
 taken-at one winner count sticks p q = cc
 
 -- this winner takes all sticks that lay
-sticks-alone : (to : SticksTo) (sticks : ℕ) (from winner : Player) (worth : Worth) → is_same from winner ≡ false
-    → sticks_won to (sticks + 0) from (only winner worth) nobody ≡ taken winner sticks taking.Winner
+sticks-alone : (to : SticksTo) (sticks : ℕ) (from winner : Player) (worth : Worth) → is_same_player from winner ≡ false
+    → sticks_won to (sticks + 0) from (lone_win winner worth) nobody ≡ taken winner sticks taking.Winner
 unfolding sticks_won own_taken
 sticks-alone sticks_to.Nearest sticks from winner worth apart =
-    taken-at (nearest from (only winner worth)) winner (sticks + 0) sticks (nearest-only from winner worth apart) (omega arith)
+    taken-at (nearest from (lone_win winner worth)) winner (sticks + 0) sticks (nearest-only from winner worth apart) (omega arith)
 sticks-alone sticks_to.Own sticks from winner worth apart =
-    let count = count_of (of_player (own_bets (only winner worth) nobody)) in
-    let rest = taken (nearest from (only winner worth)) ((sticks + 0) - count) taking.Winner in
+    let count = count_players (of_player (own_bets (lone_win winner worth) nobody)) in
+    let rest = taken (nearest from (lone_win winner worth)) ((sticks + 0) - count) taking.Winner in
     ap (λ (own : List Move). own ++ rest) (no-own winner worth)
-    ∙ taken-at (nearest from (only winner worth)) winner ((sticks + 0) - count) sticks (nearest-only from winner worth apart) (omega (arith, no-own-count winner worth))
+    ∙ taken-at (nearest from (lone_win winner worth)) winner ((sticks + 0) - count) sticks (nearest-only from winner worth apart) (omega (arith, no-own-count winner worth))
 
 -- ---- all that is moved
 
@@ -137,11 +137,11 @@ no-bets : bets nobody ≡ []
 unfolding bets
 no-bets = refl
 
-pub lone_ron-moves : (state : GameState) (rules : TableRules) (from winner : Player) (worth : Worth) → is_same from winner ≡ false
+pub lone_ron-moves : (state : GameState) (rules : TableRules) (from winner : Player) (worth : Worth) → is_same_player from winner ≡ false
     → moves_of state rules (lone_ron from winner worth) ≡ ordinary_ron state.dealer from winner state.counters worth ++ taken winner state.sticks taking.Winner
 unfolding moves_of moves_as_played
 lone_ron-moves state rules from winner worth apart =
-    let wins = only winner worth in
+    let wins = lone_win winner worth in
     let counters = counters_for state.counters rules.counters from wins winner in
     ap (moves_as_played state rules) (played-alone rules.ron from winner worth apart)
     ∙ joined (bets nobody) (ron_moves state rules.counters from wins) (ordinary_ron state.dealer from winner state.counters worth)

@@ -3,7 +3,7 @@ use Rattle.std.proofs.Common.{◌≡◌, ℕ, ◌+◌, ◌-◌, ◌*◌, ◌≤�
 use Rattle.std.specs.List.{sum_by}
 use Rattle.std.proofs.lemmas.Int.{ints}
 use Rattle.std.proofs.lemmas.List.Sums.{sum_by-cons}
-use Rattle.riichi_table.specs.Players.{is_same, over_players}
+use Rattle.riichi_table.specs.Players.{is_same_player, over_players}
 use Rattle.riichi_table.specs.declared.player.Player.{Player}
 use Rattle.riichi_table.specs.declared.player.Player.TheVariants.{First, Second, Third, Fourth}
 use Rattle.riichi_settle.specs.Settled.{amount_if, got_by, given_by, sticks_bet, sticks_taken, change_by, sticks_by, moves_of}
@@ -13,7 +13,7 @@ use Rattle.riichi_settle.specs.declared.moved.Move.{Move}
 use Rattle.riichi_settle.specs.declared.moved.Move.TheVariants.{Points, Bet, Sticks}
 
 -- one of the four has it
-one_has : (player : Player) (points : ℕ) → over_players (λ other. amount_if (is_same player other) points) ≡ points
+one_has : (player : Player) (points : ℕ) → over_players (λ other. amount_if (is_same_player player other) points) ≡ points
 one_has First points = omega arith
 one_has Second points = omega arith
 one_has Third points = omega arith

@@ -2,7 +2,7 @@
 use Rattle.std.proofs.Common.{◌≡◌, ℕ, ◌+◌, ◌-◌, ◌*◌, ◌/◌, ◌≤◌, Bool, true, false, not, ◌&&◌, List, [], ◌++◌, Option, Some, None, refl, arith, if◌then◌else◌}
 use Rattle.std.specs.List.{sum_by}
 use Rattle.std.proofs.lemmas.List.Sums.{sum_by-append}
-use Rattle.riichi_table.specs.Players.{of_player, is_same, count_of, of_some, one_if}
+use Rattle.riichi_table.specs.Players.{of_player, is_same_player, count_players, of_some, one_where}
 use Rattle.riichi_table.specs.declared.player.Player.{Player}
 use Rattle.riichi_table.specs.declared.player.Player.TheVariants.{First, Second, Third, Fourth}
 use Rattle.riichi_table.specs.declared.player.ByPlayer.{ByPlayer}
@@ -19,9 +19,9 @@ use Rattle.riichi_table.specs.declared.outcome.Liable.{Liable}
 use Rattle.riichi_table.specs.declared.outcome.Win.{Win}
 use Rattle.riichi_table.specs.declared.outcome.Outcome.{Outcome}
 use Rattle.riichi_table.specs.declared.outcome.Outcome.TheVariants.{Ron, Tsumo, Draw, Abort, Chombo, Penalty, Stands, End}
-use Rattle.riichi_settle.specs.Moves.{paid, taken, each_player, bet, bets}
+use Rattle.riichi_settle.specs.Moves.{payment_move, taken, each_player, bet, bets}
 use Rattle.riichi_settle.specs.Winners.{wins_of, nearest, as_played}
-use Rattle.riichi_settle.specs.Wins.{ordinary_ron, shared_ron, won_with, won, won_if, win_moves, counters_for, ron_moves, own_bets, own_bet_taken, own_taken, sticks_won, drawn_from, drawn, liable_tsumo, tsumo_with, tsumo_moves, price_between, other_limits}
+use Rattle.riichi_settle.specs.Wins.{ordinary_ron, shared_ron, won_with, one_ron, won_if, win_moves, counters_for, ron_moves, own_bets, own_bet_taken, own_taken, sticks_won, drawn_from, drawn, liable_tsumo, tsumo_with, tsumo_moves, price_between, other_limits}
 use Rattle.riichi_settle.specs.Prices.{ron_price}
 use Rattle.riichi_settle.specs.Draws.{share_between, unready_moves, ready_moves, nagashi_of, nagashi_moves, draw_moves, amends, chombo_moves, ready_share, mangan}
 use Rattle.riichi_settle.specs.Settled.{sticks_bet, sticks_taken, sticks_lying, moves_as_played, moves_of}
@@ -43,7 +43,7 @@ record TakesNone (moves : List Move) : Type 0 where
 empty : TakesNone []
 empty = record { none = refl }
 
-payment : (from to : Player) (points : ℕ) (why : Reason) → TakesNone (paid from to points why)
+payment : (from to : Player) (points : ℕ) (why : Reason) → TakesNone (payment_move from to points why)
 payment from to points why = record { none = taken-paid from to points why }
 
 two : (xs ys : List Move) → TakesNone xs → TakesNone ys → TakesNone (xs ++ ys)
@@ -72,34 +72,34 @@ no-bets riichi = each (λ player. bet (of_player riichi player) player) (λ play
 no-ordinary : (dealer from winner : Player) (counters : ℕ) (worth : Worth) → TakesNone (ordinary_ron dealer from winner counters worth)
 unfolding ordinary_ron
 no-ordinary dealer from winner counters worth =
-    two (paid from winner (ron_price worth (is_same winner dealer)) why.Ron) (paid from winner (300 * counters) why.Counters)
-    (payment from winner (ron_price worth (is_same winner dealer)) why.Ron) (payment from winner (300 * counters) why.Counters)
+    two (payment_move from winner (ron_price worth (is_same_player winner dealer)) why.Ron) (payment_move from winner (300 * counters) why.Counters)
+    (payment from winner (ron_price worth (is_same_player winner dealer)) why.Ron) (payment from winner (300 * counters) why.Counters)
 
-pair : (one other : Player) (winner : Player) (points more : ℕ) (reason another : Reason) → TakesNone (paid one winner points reason ++ paid other winner more another)
+pair : (one other : Player) (winner : Player) (points more : ℕ) (reason another : Reason) → TakesNone (payment_move one winner points reason ++ payment_move other winner more another)
 pair one other winner points more reason another =
-    two (paid one winner points reason) (paid other winner more another) (payment one winner points reason) (payment other winner more another)
+    two (payment_move one winner points reason) (payment_move other winner more another) (payment one winner points reason) (payment other winner more another)
 
 pairs : (one other : Player) (winner : Player) (a b c d : ℕ) (r s t u : Reason)
-    → TakesNone (paid one winner a r ++ paid other winner b s ++ paid other winner c t ++ paid one winner d u)
+    → TakesNone (payment_move one winner a r ++ payment_move other winner b s ++ payment_move other winner c t ++ payment_move one winner d u)
 pairs one other winner a b c d r s t u =
-    two (paid one winner a r ++ paid other winner b s ++ paid other winner c t) (paid one winner d u)
-    (two (paid one winner a r ++ paid other winner b s) (paid other winner c t) (pair one other winner a b r s) (payment other winner c t))
+    two (payment_move one winner a r ++ payment_move other winner b s ++ payment_move other winner c t) (payment_move one winner d u)
+    (two (payment_move one winner a r ++ payment_move other winner b s) (payment_move other winner c t) (pair one other winner a b r s) (payment other winner c t))
     (payment one winner d u)
 
 no-shared : (dealer from winner : Player) (counters : ℕ) (worth : Worth) (liable : Liable) → TakesNone (shared_ron dealer from winner counters worth liable)
 unfolding shared_ron
 no-shared dealer from winner counters worth liable =
-    let half = ron_price (Yakuman liable.limits) (is_same winner dealer) / 2 in
-    pairs liable.player from winner half half (ron_price (other_limits worth liable.limits) (is_same winner dealer)) (300 * counters) why.Liable why.OtherHalf why.Ron why.Counters
+    let half = ron_price (Yakuman liable.limits) (is_same_player winner dealer) / 2 in
+    pairs liable.player from winner half half (ron_price (other_limits worth liable.limits) (is_same_player winner dealer)) (300 * counters) why.Liable why.OtherHalf why.Ron why.Counters
 
 no-won : (dealer from winner : Player) (counters : ℕ) (worth : Worth) (liable : Option Liable) → TakesNone (won_with dealer from winner counters worth liable)
 no-won dealer from winner counters worth None = no-ordinary dealer from winner counters worth
 no-won dealer from winner counters worth (Some liable) =
-    either (is_same liable.player from) (ordinary_ron dealer from winner counters worth) (shared_ron dealer from winner counters worth liable)
+    either (is_same_player liable.player from) (ordinary_ron dealer from winner counters worth) (shared_ron dealer from winner counters worth liable)
     (no-ordinary dealer from winner counters worth) (no-shared dealer from winner counters worth liable)
 
 no-won_if : (dealer from winner : Player) (counters : ℕ) (win : Option Win) → TakesNone (won_if dealer from winner counters win)
-unfolding won
+unfolding one_ron
 no-won_if dealer from winner counters None = empty
 no-won_if dealer from winner counters (Some win) = no-won dealer from winner counters win.worth win.liable
 
@@ -115,7 +115,7 @@ no-drawn_from : (dealer winner : Player) (worth : Worth) (counters : ℕ) (reaso
 unfolding drawn_from
 no-drawn_from dealer winner worth counters reason payer =
     let price = price_between dealer worth payer winner in
-    either (is_same payer winner) [] (paid payer winner price reason ++ paid payer winner (100 * counters) why.Counters) empty
+    either (is_same_player payer winner) [] (payment_move payer winner price reason ++ payment_move payer winner (100 * counters) why.Counters) empty
     (pair payer payer winner price (100 * counters) reason why.Counters)
 
 no-drawn : (dealer winner : Player) (worth : Worth) (counters : ℕ) (reason : Reason) → TakesNone (drawn dealer winner worth counters reason)
@@ -125,11 +125,11 @@ no-drawn dealer winner worth counters reason = each (drawn_from dealer winner wo
 no-liable : (state : GameState) (winner : Player) (worth : Worth) (liable : Liable) → TakesNone (liable_tsumo state winner worth liable)
 unfolding liable_tsumo
 no-liable state winner worth liable =
-    let price = ron_price (Yakuman liable.limits) (is_same winner state.dealer) in
+    let price = ron_price (Yakuman liable.limits) (is_same_player winner state.dealer) in
     let others = drawn state.dealer winner (other_limits worth liable.limits) 0 why.Tsumo in
-    let counters = paid liable.player winner (300 * state.counters) why.Counters in
-    two (paid liable.player winner price why.Liable ++ others) counters
-    (two (paid liable.player winner price why.Liable) others (payment liable.player winner price why.Liable)
+    let counters = payment_move liable.player winner (300 * state.counters) why.Counters in
+    two (payment_move liable.player winner price why.Liable ++ others) counters
+    (two (payment_move liable.player winner price why.Liable) others (payment liable.player winner price why.Liable)
     (no-drawn state.dealer winner (other_limits worth liable.limits) 0 why.Tsumo))
     (payment liable.player winner (300 * state.counters) why.Counters)
 
@@ -144,8 +144,8 @@ no-tsumo state winner win = no-tsumo_with state winner win.worth win.liable
 no-share : (ready : ByPlayer Bool) (payer payee : Player) → TakesNone (share_between ready payer payee)
 unfolding share_between
 no-share ready payer payee =
-    let share = ready_share (count_of (of_player ready)) in
-    either (not (of_player ready payer) && of_player ready payee) (paid payer payee share why.Ready) [] (payment payer payee share why.Ready) empty
+    let share = ready_share (count_players (of_player ready)) in
+    either (not (of_player ready payer) && of_player ready payee) (payment_move payer payee share why.Ready) [] (payment payer payee share why.Ready) empty
 
 no-unready : (ready : ByPlayer Bool) (payer : Player) → TakesNone (unready_moves ready payer)
 unfolding unready_moves
@@ -171,7 +171,7 @@ no-draw dealer ready nagashi =
 no-amends : (dealer player other : Player) → TakesNone (amends dealer player other)
 no-amends dealer player other =
     let price = price_between dealer mangan player other in
-    either (is_same other player) [] (paid player other price why.Chombo) empty (payment player other price why.Chombo)
+    either (is_same_player other player) [] (payment_move player other price why.Chombo) empty (payment player other price why.Chombo)
 
 no-chombo : (cost : ChomboCost) (dealer player : Player) → TakesNone (chombo_moves cost dealer player)
 unfolding chombo_moves
@@ -180,11 +180,11 @@ no-chombo cost.Mangan dealer player = each (amends dealer player) (no-amends dea
 
 -- ---- the sticks of a win
 
-own_taken-one : (has : Bool) (player : Player) → takes (own_bet_taken has player) ≡ one_if has
+own_taken-one : (has : Bool) (player : Player) → takes (own_bet_taken has player) ≡ one_where has
 own_taken-one true player = refl
 own_taken-one false player = refl
 
-own_taken-count : (own : ByPlayer Bool) → takes (own_taken own) ≡ count_of (of_player own)
+own_taken-count : (own : ByPlayer Bool) → takes (own_taken own) ≡ count_players (of_player own)
 unfolding own_taken
 own_taken-count own =
     omega (
@@ -196,13 +196,13 @@ own_taken-count own =
       own_taken-one own.fourth Fourth,
     )
 
-fewer : (wins declared : Bool) → one_if (wins && declared) ≤ one_if declared
+fewer : (wins declared : Bool) → one_where (wins && declared) ≤ one_where declared
 fewer true true = omega arith
 fewer true false = omega arith
 fewer false true = omega arith
 fewer false false = omega arith
 
-own_bets-fewer : (wins : ByPlayer (Option Win)) (riichi : ByPlayer Bool) → count_of (of_player (own_bets wins riichi)) ≤ count_of (of_player riichi)
+own_bets-fewer : (wins : ByPlayer (Option Win)) (riichi : ByPlayer Bool) → count_players (of_player (own_bets wins riichi)) ≤ count_players (of_player riichi)
 own_bets-fewer wins riichi =
     omega (
       arith,
@@ -214,12 +214,12 @@ own_bets-fewer wins riichi =
 
 -- a win takes all that lies
 pub sticks_won-all : (to : SticksTo) (sticks : ℕ) (from : Player) (wins : ByPlayer (Option Win)) (riichi : ByPlayer Bool)
-    → takes (sticks_won to (sticks + count_of (of_player riichi)) from wins riichi) ≡ sticks + count_of (of_player riichi)
+    → takes (sticks_won to (sticks + count_players (of_player riichi)) from wins riichi) ≡ sticks + count_players (of_player riichi)
 unfolding sticks_won
-sticks_won-all sticks_to.Nearest sticks from wins riichi = taken-taken (nearest from wins) (sticks + count_of (of_player riichi)) taking.Winner
+sticks_won-all sticks_to.Nearest sticks from wins riichi = taken-taken (nearest from wins) (sticks + count_players (of_player riichi)) taking.Winner
 sticks_won-all sticks_to.Own sticks from wins riichi =
     let own = own_bets wins riichi in
-    let rest = (sticks + count_of (of_player riichi)) - count_of (of_player own) in
+    let rest = (sticks + count_players (of_player riichi)) - count_players (of_player own) in
     omega (
       arith,
       sum_by-append sticks_taken (own_taken own) (taken (nearest from wins) rest taking.Winner),
@@ -230,11 +230,11 @@ sticks_won-all sticks_to.Own sticks from wins riichi =
 
 -- ---- the bets
 
-bet-one : (declared : Bool) (player : Player) → sum_by sticks_bet (bet declared player) ≡ one_if declared
+bet-one : (declared : Bool) (player : Player) → sum_by sticks_bet (bet declared player) ≡ one_where declared
 bet-one true player = refl
 bet-one false player = refl
 
-pub bets-count : (riichi : ByPlayer Bool) → sum_by sticks_bet (bets riichi) ≡ count_of (of_player riichi)
+pub bets-count : (riichi : ByPlayer Bool) → sum_by sticks_bet (bets riichi) ≡ count_players (of_player riichi)
 unfolding bets
 bets-count riichi =
     omega (
@@ -248,21 +248,21 @@ bets-count riichi =
 
 -- ---- together
 
-few : (riichi : ByPlayer Bool) (sticks : ℕ) (rest : List Move) → takes rest ≤ sticks + count_of (of_player riichi)
+few : (riichi : ByPlayer Bool) (sticks : ℕ) (rest : List Move) → takes rest ≤ sticks + count_players (of_player riichi)
     → takes (bets riichi ++ rest) ≤ sticks + sum_by sticks_bet (bets riichi ++ rest)
 few riichi sticks rest most =
     omega (arith, sum_by-append sticks_taken (bets riichi) rest, sum_by-append sticks_bet (bets riichi) rest, (no-bets riichi).none, bets-count riichi)
 
 -- after the bets what is paid takes no stick, and the winner no more than lie
-won_few : (riichi : ByPlayer Bool) (sticks : ℕ) (paid won : List Move) → TakesNone paid → takes won ≡ sticks + count_of (of_player riichi)
-    → takes (bets riichi ++ paid ++ won) ≤ sticks + sum_by sticks_bet (bets riichi ++ paid ++ won)
-won_few riichi sticks paid won none all =
+won_few : (riichi : ByPlayer Bool) (sticks : ℕ) (payments winnings : List Move) → TakesNone payments → takes winnings ≡ sticks + count_players (of_player riichi)
+    → takes (bets riichi ++ payments ++ winnings) ≤ sticks + sum_by sticks_bet (bets riichi ++ payments ++ winnings)
+won_few riichi sticks payments winnings none all =
     omega (
       arith,
-      sum_by-append sticks_taken (bets riichi ++ paid) won,
-      sum_by-append sticks_taken (bets riichi) paid,
-      sum_by-append sticks_bet (bets riichi ++ paid) won,
-      sum_by-append sticks_bet (bets riichi) paid,
+      sum_by-append sticks_taken (bets riichi ++ payments) winnings,
+      sum_by-append sticks_taken (bets riichi) payments,
+      sum_by-append sticks_bet (bets riichi ++ payments) winnings,
+      sum_by-append sticks_bet (bets riichi) payments,
       (no-bets riichi).none,
       none.none,
       bets-count riichi,
@@ -282,7 +282,7 @@ as_played-few state rules (Tsumo winner win riichi) =
     (no-tsumo state winner win) (taken-taken winner (sticks_lying state riichi) taking.Winner)
 as_played-few state rules (Draw ready nagashi riichi) =
     let moves = draw_moves state.dealer ready nagashi in
-    let most : takes moves ≤ state.sticks + count_of (of_player riichi) = omega (arith, (no-draw state.dealer ready nagashi).none) in
+    let most : takes moves ≤ state.sticks + count_players (of_player riichi) = omega (arith, (no-draw state.dealer ready nagashi).none) in
     few riichi state.sticks moves most
 as_played-few state rules (Abort riichi) = none_few state.sticks (bets riichi) (no-bets riichi).none
 as_played-few state rules (Chombo player) = none_few state.sticks (chombo_moves rules.chombo state.dealer player) (no-chombo rules.chombo state.dealer player).none

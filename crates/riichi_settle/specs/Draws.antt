@@ -1,13 +1,13 @@
 -- What is paid at a draw, and for a chombo.
 use Rattle.std.specs.Prelude.{ℕ, ◌==◌, Bool, not, ◌&&◌, if◌then◌else◌, List, []}
-use Rattle.riichi_table.specs.Players.{of_player, is_same, count_of, of_some}
+use Rattle.riichi_table.specs.Players.{of_player, is_same_player, count_players, of_some}
 use Rattle.riichi_table.specs.declared.player.Player.{Player}
 use Rattle.riichi_table.specs.declared.player.ByPlayer.{ByPlayer}
 use Rattle.riichi_table.specs.declared.rules.ChomboCost.{ChomboCost}
 use Rattle.riichi_table.specs.declared.rules.ChomboCost.TheVariants.{Points, Mangan}
 use Rattle.riichi_table.specs.declared.worth.Worth.{Worth}
 use Rattle.riichi_table.specs.declared.worth.Worth.TheVariants.{Counted}
-use Rattle.riichi_settle.specs.Moves.{paid, each_player}
+use Rattle.riichi_settle.specs.Moves.{payment_move, each_player}
 use Rattle.riichi_settle.specs.Wins.{drawn, price_between}
 use Rattle.riichi_settle.specs.declared.moved.Move.{Move}
 use Rattle.riichi_settle.specs.declared.moved.Reason.TheVariants as why
@@ -22,7 +22,7 @@ ready_share ready = if ready == 2 then 750 else 1000
 unfoldable pub share_between : ByPlayer Bool → Player → Player → List Move
 share_between ready payer payee =
     if not (of_player ready payer) && of_player ready payee
-    then paid payer payee (ready_share (count_of (of_player ready))) why.Ready else []
+    then payment_move payer payee (ready_share (count_players (of_player ready))) why.Ready else []
 
 unfoldable pub unready_moves : ByPlayer Bool → Player → List Move
 unready_moves ready payer = each_player (share_between ready payer)
@@ -43,7 +43,7 @@ unfoldable pub draw_moves : Player → ByPlayer Bool → ByPlayer Bool → List 
 draw_moves dealer ready nagashi = if of_some (of_player nagashi) then nagashi_moves dealer nagashi else ready_moves ready
 
 abbrev pub amends : Player → Player → Player → List Move
-amends dealer player other = if is_same other player then [] else paid player other (price_between dealer mangan player other) why.Chombo
+amends dealer player other = if is_same_player other player then [] else payment_move player other (price_between dealer mangan player other) why.Chombo
 
 -- a mangan paid backwards to each other player; points off the final points move nothing now
 unfoldable pub chombo_moves : ChomboCost → Player → Player → List Move

@@ -10,8 +10,8 @@ use Rattle.riichi_settle.specs.declared.moved.Reason.{Reason}
 use Rattle.riichi_settle.specs.declared.moved.Taking.{Taking}
 
 -- a payment, where there is something to pay
-abbrev pub paid : Player → Player → ℕ → Reason → List Move
-paid from to points why = if points == 0 then [] else Points from to points why ∷ []
+abbrev pub payment_move : Player → Player → ℕ → Reason → List Move
+payment_move from to points why = if points == 0 then [] else Points from to points why ∷ []
 
 -- sticks that a player takes, where there are any
 abbrev pub taken : Player → ℕ → Taking → List Move

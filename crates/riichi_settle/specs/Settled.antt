@@ -1,7 +1,7 @@
 -- What an outcome moves, and what that changes.
 use Rattle.std.specs.Prelude.{ℕ, ◌+◌, ◌-◌, ◌*◌, Bool, if◌then◌else◌, ℤ, pos, ◌+ℤ◌, ◌-ℤ◌, List, [], ◌++◌}
 use Rattle.std.specs.List.{sum_by}
-use Rattle.riichi_table.specs.Players.{of_player, by_players, is_same, count_of}
+use Rattle.riichi_table.specs.Players.{of_player, by_players, is_same_player, count_players}
 use Rattle.riichi_table.specs.declared.player.Player.{Player}
 use Rattle.riichi_table.specs.declared.player.ByPlayer.{ByPlayer}
 use Rattle.riichi_table.specs.declared.rules.TableRules.{TableRules}
@@ -19,7 +19,7 @@ use Rattle.riichi_settle.specs.declared.moved.Taking.TheVariants.{Winner}
 
 -- the sticks on the table, with those of the deal
 abbrev pub sticks_lying : GameState → ByPlayer Bool → ℕ
-sticks_lying state riichi = state.sticks + count_of (of_player riichi)
+sticks_lying state riichi = state.sticks + count_players (of_player riichi)
 
 -- the bets go to the table first; then all is paid; then a winner takes the sticks
 unfoldable pub moves_as_played : GameState → TableRules → Outcome → List Move
@@ -42,13 +42,13 @@ abbrev pub amount_if : Bool → ℕ → ℕ
 amount_if holds points = if holds then points else 0
 
 abbrev pub got_by : Player → Move → ℕ
-got_by player (Points from to points why) = amount_if (is_same to player) points
+got_by player (Points from to points why) = amount_if (is_same_player to player) points
 got_by player (Bet better) = 0
-got_by player (Sticks to count why) = amount_if (is_same to player) (1000 * count)
+got_by player (Sticks to count why) = amount_if (is_same_player to player) (1000 * count)
 
 abbrev pub given_by : Player → Move → ℕ
-given_by player (Points from to points why) = amount_if (is_same from player) points
-given_by player (Bet better) = amount_if (is_same better player) 1000
+given_by player (Points from to points why) = amount_if (is_same_player from player) points
+given_by player (Bet better) = amount_if (is_same_player better player) 1000
 given_by player (Sticks to count why) = 0
 
 abbrev pub sticks_bet : Move → ℕ
@@ -68,8 +68,8 @@ unfoldable pub change_by : List Move → Player → ℤ
 change_by moves player = pos (sum_by (got_by player) moves) -ℤ pos (sum_by (given_by player) moves)
 
 -- the points of each player afterwards
-abbrev pub points_by : ByPlayer ℤ → List Move → ByPlayer ℤ
-points_by points moves = by_players (λ player. of_player points player +ℤ change_by moves player)
+abbrev pub points_after_moves : ByPlayer ℤ → List Move → ByPlayer ℤ
+points_after_moves points moves = by_players (λ player. of_player points player +ℤ change_by moves player)
 
 -- the sticks that lay, and those that are bet, less those that are taken
 unfoldable pub sticks_by : ℕ → List Move → ℕ

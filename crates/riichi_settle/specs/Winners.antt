@@ -1,6 +1,6 @@
 -- Who wins on a discard.
 use Rattle.std.specs.Prelude.{Bool, nat_lt, if◌then◌else◌, Option, None, is_some}
-use Rattle.riichi_table.specs.Players.{of_player, by_players, with_player, same_for_all, after, count_of}
+use Rattle.riichi_table.specs.Players.{of_player, by_players, with_player, same_for_all, after, count_players}
 use Rattle.riichi_table.specs.declared.player.Player.{Player}
 use Rattle.riichi_table.specs.declared.player.ByPlayer.{ByPlayer}
 use Rattle.riichi_table.specs.declared.rules.TableRules.{TableRules}
@@ -30,7 +30,7 @@ nearest_alone from wins = with_player (same_for_all None) (nearest from wins) (o
 
 -- three winners make it an abortive draw
 abbrev pub two_at_most : Player → ByPlayer (Option Win) → ByPlayer Bool → Outcome
-two_at_most from wins riichi = if nat_lt 2 (count_of (of_player (winners wins))) then Abort riichi else Ron from wins riichi
+two_at_most from wins riichi = if nat_lt 2 (count_players (of_player (winners wins))) then Abort riichi else Ron from wins riichi
 
 unfoldable pub ron_as_played : SeveralWinners → Player → ByPlayer (Option Win) → ByPlayer Bool → Outcome
 ron_as_played All from wins riichi = Ron from wins riichi

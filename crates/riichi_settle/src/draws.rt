@@ -1,6 +1,6 @@
 //! What a draw moves, and a chombo.
 ghost use Rattle.std.specs.Prelude.{◌≡◌, ◌≤◌, ◌<◌, ◌+◌, ◌++◌, length};
-ghost use Rattle.riichi_table.specs.Players.{of_player, count_of};
+ghost use Rattle.riichi_table.specs.Players.{of_player, count_players};
 ghost use Rattle.riichi_settle.specs.Draws as spec;
 
 use crate::moved::{MOST_MOVES, Moves, Reason, push_paid};

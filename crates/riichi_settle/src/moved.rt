@@ -81,7 +81,7 @@ pub type Moves = ArrayVec<Move, MOST_MOVES>;
 /// A payment, where there is something to pay.
 pub(crate) fn push_paid(moves: &mut Moves, from: Player, to: Player, points: u32, why: Reason)
     requires { length moves.old.items < MOST_MOVES }
-    ensures items { moves.new.items ≡ moves.old.items ++ spec.paid from to points why }
+    ensures items { moves.new.items ≡ moves.old.items ++ spec.payment_move from to points why }
     ensures most { length moves.new.items ≤ length moves.old.items + 1 }
 {
     if points > 0 {

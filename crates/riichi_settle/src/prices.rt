@@ -10,7 +10,7 @@ pub(crate) fn ron_price(worth: Worth, dealer: bool) -> u32
     ensures value { result ≡ spec.ron_price worth dealer }
     ensures most { result ≤ 13000000 }
 {
-    times(if dealer { 6 } else { 4 }, worth)
+    times_base(if dealer { 6 } else { 4 }, worth)
 }
 
 /// What one player pays for a self-draw, where `dealer` says that the winner is dealer, or that this payer is.
@@ -18,14 +18,14 @@ pub(crate) fn tsumo_price(worth: Worth, dealer: bool) -> u32
     ensures value { result ≡ spec.tsumo_price worth dealer }
     ensures most { result ≤ 13000000 }
 {
-    times(if dealer { 2 } else { 1 }, worth)
+    times_base(if dealer { 2 } else { 1 }, worth)
 }
 
 /// So many times the base points, rounded up to a hundred.
-#[tactic(auto, unfolding(crate::specs::Prices::times), using(crate::proofs::Hundreds::limits_are_hundreds))]
-fn times(number: u32, worth: Worth) -> u32
+#[tactic(auto, unfolding(crate::specs::Prices::times_base), using(crate::proofs::Hundreds::limits_are_hundreds))]
+fn times_base(number: u32, worth: Worth) -> u32
     requires { number ≤ 6 }
-    ensures value { result ≡ spec.times number worth }
+    ensures value { result ≡ spec.times_base number worth }
     ensures most { result ≤ 13000000 }
 {
     match worth {

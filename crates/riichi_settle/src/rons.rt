@@ -82,11 +82,11 @@ fn counters_for(
     }
 }
 
-#[tactic(auto, unfolding(crate::specs::Wins::won))]
+#[tactic(auto, unfolding(crate::specs::Wins::one_ron))]
 fn push_won(moves: &mut Moves, discard: Discard, winner: Player, counters: u8, win: Win)
     requires { length moves.old.items ≤ 36 }
     ensures items { moves.new.items
-        ≡ moves.old.items ++ spec.won discard.dealer discard.from winner counters win }
+        ≡ moves.old.items ++ spec.one_ron discard.dealer discard.from winner counters win }
     ensures most { length moves.new.items ≤ length moves.old.items + 4 }
 {
     match win.liable {

@@ -24,7 +24,7 @@ pub fn settle(state: &GameState, rules: &TableRules, outcome: &Outcome) -> Chang
 
 /// The points of each player after moves.
 pub fn points_after(points: &ByPlayer<i32>, moves: &Moves) -> ByPlayer<i64>
-    ensures { result ≡ spec.points_by points.now moves.now.items }
+    ensures { result ≡ spec.points_after_moves points.now moves.now.items }
 {
     let list = moves.as_slice();
     ByPlayer {

@@ -32,19 +32,19 @@ after Second = Third
 after Third = Fourth
 after Fourth = First
 
-abbrev pub is_same : Player → Player → Bool
-is_same First First = true
-is_same Second Second = true
-is_same Third Third = true
-is_same Fourth Fourth = true
-is_same one other = false
+abbrev pub is_same_player : Player → Player → Bool
+is_same_player First First = true
+is_same_player Second Second = true
+is_same_player Third Third = true
+is_same_player Fourth Fourth = true
+is_same_player one other = false
 
 -- the dealer sits East, and the winds go round in the order of turns
 abbrev pub seat_of : Player → Player → Wind
 seat_of player dealer =
-    if is_same player dealer then East
-    else if is_same player (after dealer) then South
-    else if is_same player (after (after dealer)) then West
+    if is_same_player player dealer then East
+    else if is_same_player player (after dealer) then South
+    else if is_same_player player (after (after dealer)) then West
     else North
 
 -- a number of each player, added up
@@ -54,12 +54,12 @@ over_players f = f First + f Second + f Third + f Fourth
 abbrev pub sum_over_players : (Player → ℤ) → ℤ
 sum_over_players f = f First +ℤ f Second +ℤ f Third +ℤ f Fourth
 
-abbrev pub one_if : Bool → ℕ
-one_if holds = if holds then 1 else 0
+abbrev pub one_where : Bool → ℕ
+one_where holds = if holds then 1 else 0
 
 -- how many of the players
-abbrev pub count_of : (Player → Bool) → ℕ
-count_of f = over_players (λ player. one_if (f player))
+abbrev pub count_players : (Player → Bool) → ℕ
+count_players f = over_players (λ player. one_where (f player))
 
 -- whether it holds of some player
 abbrev pub of_some : (Player → Bool) → Bool

@@ -40,7 +40,7 @@ impl Player {
 
     /// Whether the two are one player.
     pub fn is(self, other: Player) -> bool
-        ensures { result ≡ spec.is_same self other }
+        ensures { result ≡ spec.is_same_player self other }
     {
         match (self, other) {
             (Player::First, Player::First) => true,
@@ -141,15 +141,18 @@ impl ByPlayer<bool> {
 
     /// How many of the players.
     pub fn count(&self) -> u8
-        ensures value { result ≡ spec.count_of (spec.of_player self.now) }
+        ensures value { result ≡ spec.count_players (spec.of_player self.now) }
         ensures most { result ≤ 4 }
     {
-        one_if(self.first) + one_if(self.second) + one_if(self.third) + one_if(self.fourth)
+        one_where(self.first)
+            + one_where(self.second)
+            + one_where(self.third)
+            + one_where(self.fourth)
     }
 }
 
-fn one_if(holds: bool) -> u8
-    ensures value { result ≡ spec.one_if holds }
+fn one_where(holds: bool) -> u8
+    ensures value { result ≡ spec.one_where holds }
     ensures most { result ≤ 1 }
 {
     if holds { 1 } else { 0 }

@@ -14,7 +14,7 @@ pub enum Worth {
 impl Worth {
     /// The base points.
     pub fn base(self) -> u32
-        ensures value { result ≡ spec.base_of self }
+        ensures value { result ≡ spec.base_of_worth self }
         ensures most { result ≤ 2040000 }
     {
         match self {
@@ -25,7 +25,7 @@ impl Worth {
 
     /// How many limits of a yakuman it has; a counted hand has none.
     pub fn limits(self) -> u8
-        ensures { result ≡ spec.limits_of self }
+        ensures { result ≡ spec.limits_of_worth self }
     {
         match self {
             Worth::Counted { .. } => 0,

@@ -2,7 +2,7 @@ use Rattle.std.proofs.Common.{ℕ, ◌⊎◌}
 use Rattle.std.specs.Prelude.{IsSome}
 use Rattle.riichi_need.specs.Reaching.{reaches}
 use Rattle.riichi_need.specs.Rows.{IsRow, limit_of}
-use Rattle.riichi_need.specs.Needs.{IsRowOf}
+use Rattle.riichi_need.specs.Needs.{IsBaseOfHan}
 use Rattle.riichi_need.specs.Winning.{way_by}
 use Rattle.riichi_need.proofs.Least.{of_lesser, of_same}
 use Rattle.riichi_need.proofs.RowsListed.{IsListedRow, is_listed, is_row}
@@ -12,7 +12,7 @@ pub returns-clause-least : goal.returns-clause-least
 returns-clause-least c =
     let rules = c.args.question.now.rules.hand in
     let by = way_by c.args.way in
-    let row = IsRowOf rules by in
+    let row = IsBaseOfHan rules by in
     let passes = reaches c.args.question.now c.args.aim c.args.way in
     let Limit : ℕ → Type 0 = λ base. IsSome (limit_of base) in
     let From4 : ℕ → Type 0 = λ base. row 4 base ⊎ Limit base in

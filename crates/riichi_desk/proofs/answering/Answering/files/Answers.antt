@@ -2,19 +2,19 @@ use Rattle.std.proofs.Common.{◌≡◌, ◌∙◌, ◌+◌, ◌++◌, ◌∷◌
 use Rattle.desk_io.specs.declared.sink.Sink.{Ghosts as OfSink}
 use Rattle.desk_cli.specs.declared.request.Manner.{Manner}
 use Rattle.desk_lines.specs.Lines.{lines}
-use Rattle.riichi_desk.specs.Answering.{AnswersTexts, IsAnswered, has_refusal, none, one_more}
+use Rattle.riichi_desk.specs.Answering.{AnswersTexts, WritesInManner, has_refusal, none, one_more}
 use Rattle.riichi_desk.proofs.answering.Answering.files.Goals.{then-is_input+in_ok-is_refused, else-is_input+in_ok-stream+in_ok-is_refused-2}
 use Rattle.riichi_desk.proofs.answering.Answering.files.Goals as goal
 
 -- one more text is answered
 next : {W : Type 0} (sink : OfSink W) (manner held : Manner) (start old new writer : W) (count : ℕ) (was is now : Bool) → held ≡ manner
     → ((given : List (List ℕ)) × (length given ≡ count) × AnswersTexts sink manner start given old was)
-    → ((text : List ℕ) × IsAnswered sink old new held (lines text) × (is ≡ has_refusal held.rules text)) → writer ≡ new → now ≡ (was || is)
+    → ((text : List ℕ) × WritesInManner sink old new held (lines text) × (is ≡ has_refusal held.rules text)) → writer ≡ new → now ≡ (was || is)
     → (given : List (List ℕ)) × (length given ≡ count + 1) × AnswersTexts sink manner start given writer now
 next sink manner held start old new writer count was is now same so_far answered here said =
     let text = answered.0 in
     let given = so_far.0 ++ text ∷ [] in
-    let done = subst (λ (m : Manner). IsAnswered sink old new m (lines text)) same answered.1 in
+    let done = subst (λ (m : Manner). WritesInManner sink old new m (lines text)) same answered.1 in
     let refusal = answered.2 ∙ ap (λ (m : Manner). has_refusal m.rules text) same in
     let more = one_more so_far.0 text old new was so_far.2 done in (
       given,
