@@ -38,13 +38,13 @@ code_lines H6 line words = missing_line (key_at (Line H6) line) words
 code_lines code line words = word_line (word_at_fault code line) words
 
 -- how many bytes stand in a word before the value of its key
-abbrev pub value_at : Option Key → ℕ
-value_at None = 0
-value_at (Some key) = length (key_name key) + 1
+abbrev pub value_begins : Option Key → ℕ
+value_begins None = 0
+value_begins (Some key) = length (key_name key) + 1
 
 -- the place of a text's fault in its word
 abbrev pub place_in : ℕ → Option Key → List ℕ → ℕ
-place_in place key word = value_at key + min place (length word)
+place_in place key word = value_begins key + min place (length word)
 
 unfoldable pub notation_lines : ℕ → Option Key → List ℕ → List ℕ → List ℕ
 notation_lines place key word words = marked_lines 36 (place_in place key word) word words

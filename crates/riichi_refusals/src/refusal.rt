@@ -121,15 +121,15 @@ fn push_notation_lines(
     push_marked(
         text,
         word,
-        value_at(key) + place.min(word.len()),
+        value_begins(key) + place.min(word.len()),
         BEFORE,
         words,
     );
 }
 
 /// How many bytes stand in a word before the value of its key. The hand has none.
-fn value_at(key: Option<Key>) -> usize
-    ensures value { result ≡ spec.value_at key }
+fn value_begins(key: Option<Key>) -> usize
+    ensures value { result ≡ spec.value_begins key }
     ensures few { result ≤ Key.MOST_NAME + 1 }
 {
     match key {
