@@ -14,13 +14,14 @@ use Rattle.desk_games.specs.Replies.{LineOfGame, Odd, Blank, Begins, Entry, seen
 use Rattle.desk_games.specs.Texts.{AnswersLines}
 use Rattle.desk_games.specs.declared.desk.GameDesk.{GameDesk}
 use Rattle.desk_games.specs.declared.desk.GameDesk.TheVariants as desk
+use Rattle.desk_games.specs.declared.form.GamesForm.{GamesForm}
 
 -- ---- one answer
 
 -- lines behind a text of games have one list of answers, are counted in one way, and leave one text of games
 abbrev pub AnswersAreOne : Type 0
-AnswersAreOne = (is_numbered : Bool) (given : Rules) (first : GameDesk) (lines one other : List (List ℕ)) (count other_count : DeskReport) (last other_last : GameDesk)
-    → AnswersLines is_numbered given first lines one count last → AnswersLines is_numbered given first lines other other_count other_last
+AnswersAreOne = (is_numbered : Bool) (form : GamesForm) (given : Rules) (first : GameDesk) (lines one other : List (List ℕ)) (count other_count : DeskReport) (last other_last : GameDesk)
+    → AnswersLines is_numbered form given first lines one count last → AnswersLines is_numbered form given first lines other other_count other_last
     → (one ≡ other) × (count ≡ other_count) × (last ≡ other_last)
 
 -- ---- how far a game has come
@@ -44,8 +45,8 @@ refuses reply = is_refused reply.kind
 
 -- by lines of which none begins another game a game comes as far as the outcomes of the accepted ones bring it, one after another
 abbrev pub GoesOnByOutcomes : Type 0
-GoesOnByOutcomes = (given : Rules) (game : GameSoFar) (lines : List (List ℕ)) (replies : List Reply) (last : GameDesk) → BeginNone lines
-    → AreReplies given (desk.Game game) lines replies last
+GoesOnByOutcomes = (form : GamesForm) (given : Rules) (game : GameSoFar) (lines : List (List ℕ)) (replies : List Reply) (last : GameDesk) → BeginNone lines
+    → AreReplies form given (desk.Game game) lines replies last
     → last ≡ desk.Game (record {
       names = game.names;
       rules = game.rules;
@@ -55,12 +56,12 @@ GoesOnByOutcomes = (given : Rules) (game : GameSoFar) (lines : List (List ℕ)) 
 
 -- behind a refused line no line of the game is accepted
 abbrev pub HeldTakesNone : Type 0
-HeldTakesNone = (given : Rules) (game : GameSoFar) (lines : List (List ℕ)) (replies : List Reply) (last : GameDesk) → BeginNone lines
-    → game.is_held ≡ true → AreReplies given (desk.Game game) lines replies last → outcomes_in replies ≡ []
+HeldTakesNone = (form : GamesForm) (given : Rules) (game : GameSoFar) (lines : List (List ℕ)) (replies : List Reply) (last : GameDesk) → BeginNone lines
+    → game.is_held ≡ true → AreReplies form given (desk.Game game) lines replies last → outcomes_in replies ≡ []
 
 -- The game began with one of the lines, and none behind that begins another; it has the names and the rules that the line says, and has
 -- come as far as the outcomes of the accepted lines behind it bring it.
-pub record IsAtHand (given : Rules) (lines : List (List ℕ)) (game : GameSoFar) : Type 0 where
+pub record IsAtHand (form : GamesForm) (given : Rules) (lines : List (List ℕ)) (game : GameSoFar) : Type 0 where
   pub front : List (List ℕ)
   pub line : List ℕ
   pub behind : List (List ℕ)
@@ -73,12 +74,12 @@ pub record IsAtHand (given : Rules) (lines : List (List ℕ)) (game : GameSoFar)
   pub said : GameSaid
   pub says : game_of hand words ≡ Some said
   pub replies : List Reply
-  pub are : AreReplies given (desk.Game (begun said)) behind replies (desk.Game game)
+  pub are : AreReplies form given (desk.Game (begun said)) behind replies (desk.Game game)
   pub names : game.names ≡ said.names
   pub rules : game.rules ≡ said.rules
   pub progress : game.progress ≡ after_all (first_progress said.rules) said.rules (outcomes_in replies)
 
 -- the game that is at hand behind the lines of a text
 abbrev pub GameComesFromItsLines : Type 0
-GameComesFromItsLines = (is_numbered : Bool) (given : Rules) (lines answers : List (List ℕ)) (report : DeskReport) (game : GameSoFar)
-    → AnswersLines is_numbered given desk.NoGame lines answers report (desk.Game game) → IsAtHand given lines game
+GameComesFromItsLines = (is_numbered : Bool) (form : GamesForm) (given : Rules) (lines answers : List (List ℕ)) (report : DeskReport) (game : GameSoFar)
+    → AnswersLines is_numbered form given desk.NoGame lines answers report (desk.Game game) → IsAtHand form given lines game
