@@ -12,6 +12,8 @@ use Rattle.riichi_game_reasons.specs.EndReasons.{end_reason, end_line}
 use Rattle.riichi_game_reasons.specs.FinalSums.{final_reasons}
 use Rattle.riichi_game_reasons.specs.MoveLines.{move_line}
 use Rattle.riichi_game_reasons.specs.declared.ends.EndReason.TheVariants.{Said}
+use Rattle.riichi_game_text.specs.Names.{names_in}
+use Rattle.desk_games.specs.declared.below.Step.{Step}
 use Rattle.desk_games.specs.declared.form.GamesForm.{GamesForm}
 use Rattle.desk_games.specs.declared.form.GamesForm.TheVariants.{Answers, Explained}
 
@@ -22,35 +24,51 @@ explains Explained = true
 
 -- ---- a deal
 
+-- An outcome of a game with these names and rules, and how far the game has come before it and after it.
+pub record GameStep : Type 0 where
+  pub names : ByPlayer (List ℕ)
+  pub rules : TableRules
+  pub before : Progress
+  pub after : Progress
+  pub outcome : Outcome
+
+abbrev pub step_in : Step → GameStep
+step_in step = record {
+  names = names_in step.names.now;
+  rules = step.rules.now;
+  before = step.before.now;
+  after = step.after.now;
+  outcome = step.outcome.now;
+}
+
 -- the line of a move, behind the end of the line before it
-abbrev pub move_below : ByPlayer (List ℕ) → ℕ → Outcome → Move → List ℕ
-move_below names counters outcome move = 10 ∷ move_line names counters outcome move
+abbrev pub move_below : GameStep → Move → List ℕ
+move_below step move = 10 ∷ move_line step.names step.before.state.counters step.outcome move
 
 -- a line for each move
-abbrev pub below_by_moves : ByPlayer (List ℕ) → ℕ → Outcome → List Move → List ℕ
-below_by_moves names counters outcome moves = flat_map (move_below names counters outcome) moves
+abbrev pub moves_below : GameStep → List Move → List ℕ
+moves_below step moves = flat_map (move_below step) moves
 
 -- a line that says why the game is over, where the deal ended it
-abbrev pub below_by_end : ByPlayer (List ℕ) → TableRules → Progress → Progress → Outcome → List ℕ
-below_by_end names rules before after outcome =
-    if after.is_over && not before.is_over
-    then 10 ∷ end_line names rules after.state.points (end_reason rules before.state after.state outcome) else []
+abbrev pub end_below : GameStep → List ℕ
+end_below step =
+    if step.after.is_over && not step.before.is_over
+    then 10 ∷ end_line step.names step.rules step.after.state.points (end_reason step.rules step.before.state step.after.state step.outcome)
+    else []
 
 -- what a deal moves, in the order of the list that it is settled by, and why the game is over
-abbrev pub deal_reasons : ByPlayer (List ℕ) → TableRules → Progress → Progress → Outcome → List ℕ
-deal_reasons names rules before after outcome =
-    below_by_moves names before.state.counters outcome (moves_of before.state rules outcome)
-    ++ below_by_end names rules before after outcome
+abbrev pub deal_reasons : GameStep → List ℕ
+deal_reasons step = moves_below step (moves_of step.before.state step.rules step.outcome) ++ end_below step
 
 -- what stands below the answer to a deal
-abbrev pub below_deal : GamesForm → ByPlayer (List ℕ) → TableRules → Progress → Progress → Outcome → List ℕ
-below_deal form names rules before after outcome = if explains form then deal_reasons names rules before after outcome else []
+abbrev pub below_deal : GamesForm → GameStep → List ℕ
+below_deal form step = if explains form then deal_reasons step else []
 
 -- ---- the end of a game
 
 -- `end` has no answer of its own; explained it has its reason
-abbrev pub said_end : GamesForm → ByPlayer (List ℕ) → TableRules → Progress → Option (List ℕ)
-said_end form names rules after = if explains form then Some (end_line names rules after.state.points Said) else None
+abbrev pub said_end : GamesForm → GameStep → Option (List ℕ)
+said_end form step = if explains form then Some (end_line step.names step.rules step.after.state.points Said) else None
 
 -- what stands below the end of a game: how the final points are made, where it has ended
 abbrev pub below_end : GamesForm → Bool → ByPlayer (List ℕ) → TableRules → ByPlayer FinalPoints → List ℕ

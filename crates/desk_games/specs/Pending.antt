@@ -7,9 +7,6 @@ use Rattle.desk_lines.specs.declared.outbox.TheConstants.{ROOM, MOST_TEXT_LINE}
 abbrev pub pending : Outbox → List ℕ
 pending outbox = outbox.bytes.items ++ outbox.text.bytes
 
-abbrev pub pending_len : Outbox → ℕ
-pending_len outbox = length outbox.bytes.items + length outbox.text.bytes
-
 -- so many bytes more fit, and one answer behind them
 abbrev pub HasRoomBelow : ℕ → Outbox → Type 0
-HasRoomBelow bytes outbox = pending_len outbox + bytes + MOST_TEXT_LINE ≤ ROOM
+HasRoomBelow bytes outbox = length (pending outbox) + bytes + MOST_TEXT_LINE ≤ ROOM

@@ -3,8 +3,6 @@ use Rattle.std.specs.Prelude.{◌≡◌, ℕ, List, [], ◌∷◌, ◌++◌, cod
 use Rattle.std.specs.Str.{bytes_eq}
 use Rattle.riichi_hand.specs.Rules.{Rules}
 use Rattle.riichi_table.specs.Players.{of_player}
-use Rattle.riichi_table.specs.declared.player.ByPlayer.{ByPlayer}
-use Rattle.riichi_table.specs.declared.rules.TableRules.{TableRules}
 use Rattle.riichi_table.specs.declared.outcome.Outcome.{Outcome}
 use Rattle.riichi_table.specs.declared.outcome.Outcome.TheVariants.{Penalty, End}
 use Rattle.riichi_game.specs.Games.{after_one}
@@ -19,7 +17,7 @@ use Rattle.riichi_game_text.specs.declared.fault.GameFault.{GameFault}
 use Rattle.riichi_game_text.specs.declared.fault.GameFault.TheVariants.{G1, G2, G3, G14}
 use Rattle.desk_lines.specs.declared.line_kind.LineKind.{LineKind}
 use Rattle.desk_lines.specs.declared.line_kind.LineKind.TheVariants.{NoRecord, Answered, Refused}
-use Rattle.desk_games.specs.Below.{below_deal, said_end}
+use Rattle.desk_games.specs.Below.{GameStep, below_deal, said_end}
 use Rattle.desk_games.specs.Played.{GameSoFar}
 use Rattle.desk_games.specs.Desks.{begun_desk, held, is_held, end_of}
 use Rattle.desk_games.specs.declared.desk.GameDesk.{GameDesk}
@@ -84,19 +82,30 @@ begin_reply form now (Some said) = record {
   desk = begun_desk (Some said);
 }
 
+abbrev pub answer_by : GamesForm → GameStep → Outcome → Option (List ℕ)
+answer_by form step (Penalty player points) = Some (penalty_text (of_player step.names player) points)
+answer_by form step End = said_end form step
+answer_by form step other = Some (deal_text step.before.state step.after.state.points ++ below_deal form step)
+
 -- the answer to an outcome by how far the game had come before it and has come after it, with what stands below it
-abbrev pub outcome_answer : GamesForm → ByPlayer (List ℕ) → TableRules → Progress → Progress → Outcome → Option (List ℕ)
-outcome_answer form names rules before after (Penalty player points) = Some (penalty_text (of_player names player) points)
-outcome_answer form names rules before after End = said_end form names rules after
-outcome_answer form names rules before after other =
-    Some (deal_text before.state after.state.points ++ below_deal form names rules before after other)
+abbrev pub outcome_answer : GamesForm → GameStep → Option (List ℕ)
+outcome_answer form step = answer_by form step step.outcome
+
+abbrev pub step_of : GameSoFar → Outcome → Progress → GameStep
+step_of game outcome after = record {
+  names = game.names;
+  rules = game.rules;
+  before = game.progress;
+  after = after;
+  outcome = outcome;
+}
 
 -- an outcome brings the game on
 abbrev pub accept : GamesForm → GameSoFar → Outcome → Reply
 accept form game outcome =
     let after = after_one game.progress game.rules outcome in record {
       ended = None;
-      answer = outcome_answer form game.names game.rules game.progress after outcome;
+      answer = outcome_answer form (step_of game outcome after);
       outcome = Some outcome;
       kind = Answered;
       desk = desk.Game (record game { progress = after });

@@ -1,6 +1,5 @@
 //! What stands below the answer to a deal and says why it is so.
 ghost use Rattle.std.specs.Prelude.{◌≡◌, ◌+◌, ◌*◌, ◌≤◌, ◌∷◌, [], ◌++◌, length};
-ghost use Rattle.riichi_game_text.specs.Names.{names_in};
 ghost use Rattle.desk_lines.specs.Outbox.{HasRoomForText};
 ghost use Rattle.desk_games.specs.Below as spec;
 ghost use Rattle.desk_games.specs.Pending.{pending, HasRoomBelow};
@@ -45,7 +44,7 @@ pub(crate) fn next_line(outbox: &mut Outbox)
 pub(crate) fn put_below(form: GamesForm, step: &Step<'_>, outbox: &mut Outbox)
     requires { HasRoomBelow MOST_BELOW outbox.old }
     ensures pending { pending outbox.new
-        ≡ pending outbox.old ++ spec.below_deal form (names_in step.now.names.now) step.now.rules.now step.now.before.now step.now.after.now step.now.outcome.now }
+        ≡ pending outbox.old ++ spec.below_deal form (spec.step_in step.now) }
     ensures room { HasRoomForText outbox.new }
 {
     if form.is_explained() {
@@ -57,7 +56,7 @@ pub(crate) fn put_below(form: GamesForm, step: &Step<'_>, outbox: &mut Outbox)
 fn put_reasons(step: &Step<'_>, outbox: &mut Outbox)
     requires { HasRoomBelow MOST_BELOW outbox.old }
     ensures pending { pending outbox.new
-        ≡ pending outbox.old ++ spec.deal_reasons (names_in step.now.names.now) step.now.rules.now step.now.before.now step.now.after.now step.now.outcome.now }
+        ≡ pending outbox.old ++ spec.deal_reasons (spec.step_in step.now) }
     ensures room { HasRoomForText outbox.new }
 {
     let moves = moves_of(&step.before.state, step.rules, step.outcome);
@@ -69,7 +68,7 @@ fn put_reasons(step: &Step<'_>, outbox: &mut Outbox)
 fn put_moves(step: &Step<'_>, moves: &[Move], outbox: &mut Outbox)
     requires { HasRoomBelow (length moves.now * MOST_MOVED) outbox.old }
     ensures pending { pending outbox.new
-        ≡ pending outbox.old ++ spec.below_by_moves (names_in step.now.names.now) step.now.before.now.state.counters step.now.outcome.now moves.now }
+        ≡ pending outbox.old ++ spec.moves_below (spec.step_in step.now) moves.now }
     ensures room { length (pending outbox.new)
         ≤ length (pending outbox.old) + length moves.now * MOST_MOVED }
 {
@@ -81,7 +80,7 @@ fn put_moves(step: &Step<'_>, moves: &[Move], outbox: &mut Outbox)
 fn put_move(step: &Step<'_>, moved: &Move, outbox: &mut Outbox)
     requires { HasRoomForText outbox.old }
     ensures pending { pending outbox.new
-        ≡ pending outbox.old ++ spec.move_below (names_in step.now.names.now) step.now.before.now.state.counters step.now.outcome.now moved.now }
+        ≡ pending outbox.old ++ spec.move_below (spec.step_in step.now) moved.now }
     ensures room { length (pending outbox.new) ≤ length (pending outbox.old) + MOST_MOVED }
 {
     next_line(outbox);
@@ -98,7 +97,7 @@ fn put_move(step: &Step<'_>, moved: &Move, outbox: &mut Outbox)
 fn put_over(step: &Step<'_>, outbox: &mut Outbox)
     requires { HasRoomBelow MOST_ENDED outbox.old }
     ensures pending { pending outbox.new
-        ≡ pending outbox.old ++ spec.below_by_end (names_in step.now.names.now) step.now.rules.now step.now.before.now step.now.after.now step.now.outcome.now }
+        ≡ pending outbox.old ++ spec.end_below (spec.step_in step.now) }
     ensures room { HasRoomForText outbox.new }
 {
     if step.after.is_over && !step.before.is_over {
@@ -106,6 +105,12 @@ fn put_over(step: &Step<'_>, outbox: &mut Outbox)
         let before = &step.before.state;
         let after = &step.after.state;
         let reason = end_reason(step.rules, before, after, step.outcome);
-        push_end_reason(&mut outbox.text, step.names, step.rules, &after.points, reason);
+        push_end_reason(
+            &mut outbox.text,
+            step.names,
+            step.rules,
+            &after.points,
+            reason,
+        );
     }
 }

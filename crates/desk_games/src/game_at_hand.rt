@@ -130,11 +130,7 @@ impl GameAtHand {
     fn finals(&self) -> ByPlayer<FinalPoints>
         ensures { result ≡ spec.finals self.now }
     {
-        final_points(
-            &self.rules,
-            &self.progress.state,
-            &self.progress.penalties,
-        )
+        final_points(&self.rules, &self.progress.state, &self.progress.penalties)
     }
 
     /// Puts what is told behind the last line of the game.

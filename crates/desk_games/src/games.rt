@@ -65,7 +65,14 @@ impl Games {
         match next_said(line) {
             None => LineKind::NoRecord,
             Some((first, words)) if first == b"game".as_slice() => self.begin(front, words, outbox),
-            Some(_) => self.desk.take(Manner { front, form: self.form }, line, outbox),
+            Some(_) => self.desk.take(
+                Manner {
+                    front,
+                    form: self.form,
+                },
+                line,
+                outbox,
+            ),
         }
     }
 

@@ -7,7 +7,7 @@ ghost use Rattle.riichi_game_text.specs.FaultTexts.{refused_text};
 ghost use Rattle.riichi_game_text.specs.Names.{names_in};
 ghost use Rattle.desk_lines.specs.Outbox.{HasRoomForLine, HasRoomForText};
 ghost use Rattle.desk_lines.specs.Telling.{with_line_feed};
-ghost use Rattle.desk_games.specs.Below.{below_deal, said_end};
+ghost use Rattle.desk_games.specs.Below.{below_deal, said_end, step_in};
 ghost use Rattle.desk_games.specs.Replies.{outcome_answer};
 ghost use Rattle.desk_games.specs.Texts.{behind_front, front_text};
 
@@ -69,7 +69,7 @@ pub(crate) fn put_begun(front: Option<u64>, line: &GameLine, outbox: &mut Outbox
 /// Puts the answer to an outcome, where it has one, and in a form that explains it what stands below it.
 pub(crate) fn put_outcome(manner: Manner, step: &Step<'_>, outbox: &mut Outbox)
     requires { HasRoomForLine outbox.old }
-    ensures { let answer = outcome_answer manner.form (names_in step.now.names.now) step.now.rules.now step.now.before.now step.now.after.now step.now.outcome.now in
+    ensures { let answer = outcome_answer manner.form (step_in step.now) in
         outbox.new.bytes.items
         ≡ outbox.old.bytes.items ++ with_line_feed (behind_front (front_text manner.front) answer) }
 {
@@ -89,7 +89,7 @@ pub(crate) fn put_outcome(manner: Manner, step: &Step<'_>, outbox: &mut Outbox)
 /// Puts that `end` was said, where that is told.
 fn put_said_end(manner: Manner, step: &Step<'_>, outbox: &mut Outbox)
     requires { HasRoomForText outbox.old }
-    ensures { let answer = said_end manner.form (names_in step.now.names.now) step.now.rules.now step.now.after.now in
+    ensures { let answer = said_end manner.form (step_in step.now) in
         outbox.new.bytes.items
         ≡ outbox.old.bytes.items ++ with_line_feed (behind_front (front_text manner.front) answer) }
 {
@@ -119,7 +119,7 @@ fn put_penalty(front: Option<u64>, names: &Names, player: Player, points: u32, o
 
 fn put_deal(manner: Manner, step: &Step<'_>, outbox: &mut Outbox)
     requires { HasRoomForLine outbox.old }
-    ensures { let below = below_deal manner.form (names_in step.now.names.now) step.now.rules.now step.now.before.now step.now.after.now step.now.outcome.now in
+    ensures { let below = below_deal manner.form (step_in step.now) in
         outbox.new.bytes.items ≡ outbox.old.bytes.items
         ++ with_line_feed (Some (front_text manner.front
         ++ (deal_text step.now.before.now.state step.now.after.now.state.points ++ below))) }

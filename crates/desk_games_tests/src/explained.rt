@@ -2,12 +2,7 @@
 use crate::worked::{is_explained, is_numbered_so};
 use std::test::Fail;
 
-/// The bets, what is paid to each winner, the counters and the sticks; to the nearest or to each, or the nearest alone.
-#[test]
-fn several_winners(rt: HostRuntime) -> Result<(), Fail> {
-    is_explained(
-        &rt,
-        b"game Anna Bo Cyd Dee
+const SEVERAL_WINNERS: &[u8] = b"game Anna Bo Cyd Dee
 => game Anna Bo Cyd Dee start 30000
 stands east 1 counters 2 sticks 1 points 29000 30000 30000 30000
 => east 1 counters 0 sticks 0 changes -1000 0 0 0 points 29000 30000 30000 30000
@@ -56,16 +51,9 @@ ron Bo from Anna 2.40 and Dee 3.30 riichi Dee,Cyd
 =>   Anna pays Dee 3900: ron, 960 base points
 =>   Dee takes the own bet back: 1000
 =>   Bo takes 3 sticks: 3000
-=> stands south 2 counters 2 sticks 0 points 19900 38200 26000 35900",
-    )
-}
+=> stands south 2 counters 2 sticks 0 points 19900 38200 26000 35900";
 
-/// The limits that somebody is liable for, the other half of them, and the limits that nobody is liable for.
-#[test]
-fn liable_players(rt: HostRuntime) -> Result<(), Fail> {
-    is_explained(
-        &rt,
-        b"game Anna Bo Cyd Dee
+const LIABLE_PLAYERS: &[u8] = b"game Anna Bo Cyd Dee
 => game Anna Bo Cyd Dee start 30000
 stands east 1 counters 1 sticks 0 points 30000 30000 30000 30000
 => east 1 counters 0 sticks 0 changes 0 0 0 0 points 30000 30000 30000 30000
@@ -97,16 +85,9 @@ ron Cyd from Anna yakuman:4 liable Bo:2
 =>   Bo pays Cyd 32000: liable for 2 limits
 =>   Anna pays Cyd 32000: the other half of 2 limits
 =>   Anna pays Cyd 64000: ron, yakuman:2
-=> stands east 3 counters 0 sticks 0 points -82000 62000 150000 -10000",
-    )
-}
+=> stands east 3 counters 0 sticks 0 points -82000 62000 150000 -10000";
 
-/// Limit hands by their names, also those by han and fu.
-#[test]
-fn limit_hands(rt: HostRuntime) -> Result<(), Fail> {
-    is_explained(
-        &rt,
-        b"game Anna Bo Cyd Dee
+const LIMIT_HANDS: &[u8] = b"game Anna Bo Cyd Dee
 => game Anna Bo Cyd Dee start 30000
 ron Bo from Cyd 5.30 and Dee haneman and Anna baiman
 => east 1 counters 0 sticks 0 changes +24000 +8000 -44000 +12000 points 54000 38000 -14000 42000
@@ -124,15 +105,9 @@ tsumo Bo sanbaiman
 ron Anna from Dee 13.30
 => east 2 counters 0 sticks 0 changes +32000 0 0 -32000 points 73900 62300 -20100 3900
 =>   Dee pays Anna 32000: ron, yakuman by 13 han
-=> stands east 3 counters 0 sticks 0 points 73900 62300 -20100 3900",
-    )
-}
+=> stands east 3 counters 0 sticks 0 points 73900 62300 -20100 3900";
 
-#[test]
-fn draws_and_aborts(rt: HostRuntime) -> Result<(), Fail> {
-    is_explained(
-        &rt,
-        b"game Anna Bo Cyd Dee nagashi=on ron=two
+const DRAWS_AND_ABORTS: &[u8] = b"game Anna Bo Cyd Dee nagashi=on ron=two
 => game Anna Bo Cyd Dee start 30000
 draw ready Anna,Cyd riichi Cyd
 => east 1 counters 0 sticks 0 changes +1500 -1500 +500 -1500 points 31500 28500 30500 28500
@@ -165,16 +140,9 @@ tsumo Bo 1.30
 =>   Dee pays Bo 300: self-draw, 240 base points
 =>   Dee pays Bo 500: 5 counters
 =>   Bo takes 5 sticks: 5000
-=> stands east 4 counters 0 sticks 0 points 41700 31100 24500 22700",
-    )
-}
+=> stands east 4 counters 0 sticks 0 points 41700 31100 24500 22700";
 
-/// Shared places, and how each total adds up.
-#[test]
-fn final_points(rt: HostRuntime) -> Result<(), Fail> {
-    is_explained(
-        &rt,
-        b"game Anna Bo Cyd Dee
+const FINAL_POINTS: &[u8] = b"game Anna Bo Cyd Dee
 => game Anna Bo Cyd Dee start 30000
 stands south 4 counters 0 sticks 0 points 41300 32700 32700 13300
 => east 1 counters 0 sticks 0 changes +11300 +2700 +2700 -16700 points 41300 32700 32700 13300
@@ -207,16 +175,9 @@ end
 =>   Anna: (28000 - 30000) + bonus 16700 - penalty 0 = 14700
 =>   Bo: (28000 - 30000) + bonus 16700 - penalty 0 = 14700
 =>   Cyd: (28000 - 30000) + bonus 16600 - penalty 0 = 14600
-=>   Dee: (16000 - 30000) + bonus -30000 - penalty 0 = -44000",
-    )
-}
+=>   Dee: (16000 - 30000) + bonus -30000 - penalty 0 = -44000";
 
-/// Why a deal ends the game.
-#[test]
-fn ends_of_games(rt: HostRuntime) -> Result<(), Fail> {
-    is_explained(
-        &rt,
-        b"game Anna Bo Cyd Dee table=online
+const ENDS_OF_GAMES: &[u8] = b"game Anna Bo Cyd Dee table=online
 => game Anna Bo Cyd Dee start 25000
 stands south 4 counters 1 sticks 0 points 27000 23500 20500 29000
 => east 1 counters 0 sticks 0 changes +2000 -1500 -4500 +4000 points 27000 23500 20500 29000
@@ -254,16 +215,9 @@ ron Anna from Bo 1.30
 =>   Anna: (30000 - 30000) + bonus 40000 - penalty 0 = 40000
 =>   Bo: (24000 - 30000) + bonus -10000 - penalty 0 = -16000
 =>   Cyd: (20000 - 30000) + bonus -20000 - penalty 0 = -30000
-=>   Dee: (26000 - 30000) + bonus 10000 - penalty 0 = 6000",
-    )
-}
+=>   Dee: (26000 - 30000) + bonus 10000 - penalty 0 = 6000";
 
-/// Why a deal of the round more, or a dead hand, ends the game.
-#[test]
-fn other_ends_of_games(rt: HostRuntime) -> Result<(), Fail> {
-    is_explained(
-        &rt,
-        b"game Anna Bo Cyd Dee table=online
+const OTHER_ENDS_OF_GAMES: &[u8] = b"game Anna Bo Cyd Dee table=online
 => game Anna Bo Cyd Dee start 25000
 stands west 4 counters 0 sticks 0 points 27000 26000 21000 26000
 => east 1 counters 0 sticks 0 changes +2000 +1000 -4000 +1000 points 27000 26000 21000 26000
@@ -320,8 +274,47 @@ chombo Dee
 =>   Anna: (44000 - 30000) + bonus 15000 - penalty 0 = 29000
 =>   Bo: (42000 - 30000) + bonus 5000 - penalty 0 = 17000
 =>   Cyd: (34100 - 30000) + bonus -5000 - penalty 0 = -900
-=>   Dee: (-100 - 30000) + bonus -15000 - penalty 0 = -45100",
-    )
+=>   Dee: (-100 - 30000) + bonus -15000 - penalty 0 = -45100";
+
+/// The bets, what is paid to each winner, the counters and the sticks; to the nearest or to each, or the nearest alone.
+#[test]
+fn several_winners(rt: HostRuntime) -> Result<(), Fail> {
+    is_explained(&rt, SEVERAL_WINNERS)
+}
+
+/// The limits that somebody is liable for, the other half of them, and the limits that nobody is liable for.
+#[test]
+fn liable_players(rt: HostRuntime) -> Result<(), Fail> {
+    is_explained(&rt, LIABLE_PLAYERS)
+}
+
+/// Limit hands by their names, also those by han and fu.
+#[test]
+fn limit_hands(rt: HostRuntime) -> Result<(), Fail> {
+    is_explained(&rt, LIMIT_HANDS)
+}
+
+#[test]
+fn draws_and_aborts(rt: HostRuntime) -> Result<(), Fail> {
+    is_explained(&rt, DRAWS_AND_ABORTS)
+}
+
+/// Shared places, and how each total adds up.
+#[test]
+fn final_points(rt: HostRuntime) -> Result<(), Fail> {
+    is_explained(&rt, FINAL_POINTS)
+}
+
+/// Why a deal ends the game.
+#[test]
+fn ends_of_games(rt: HostRuntime) -> Result<(), Fail> {
+    is_explained(&rt, ENDS_OF_GAMES)
+}
+
+/// Why a deal of the round more, or a dead hand, ends the game.
+#[test]
+fn other_ends_of_games(rt: HostRuntime) -> Result<(), Fail> {
+    is_explained(&rt, OTHER_ENDS_OF_GAMES)
 }
 
 /// What stands below an answer has no number. A game with a refused line stands, and nothing is below that.

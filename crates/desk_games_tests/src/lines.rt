@@ -220,8 +220,9 @@ stands east 1 counters 0 sticks 0 points 30000 30000 30000 30000
             true,
             GamesForm::Answers,
             &mut reader,
-            &mut writer
-        ).is_ok(),
+            &mut writer,
+        )
+        .is_ok(),
     );
     same(&rt, writer.bytes(), answers.as_slice());
 }

@@ -83,7 +83,12 @@ fn read_page(page: &[u8]) -> Result<Page, Fail> {
 /// A text of games is answered so.
 pub(crate) fn is_worked(rt: &impl Abort, page: &[u8]) -> Result<(), Fail> {
     let page = read_page(page)?;
-    is_answered(rt, Rules::One, page.text.as_slice(), page.answers.as_slice())?;
+    is_answered(
+        rt,
+        Rules::One,
+        page.text.as_slice(),
+        page.answers.as_slice(),
+    )?;
     Ok(())
 }
 

@@ -11,28 +11,28 @@ use Rattle.riichi_game_reasons.specs.EndReasons.{name_if}
 
 -- ---- the bonuses that several share
 
-abbrev pub has_place : ByPlayer FinalPoints → ℕ → Player → Bool
-has_place finals place player = (of_player finals player).place == place
+abbrev pub is_placed_at : ByPlayer FinalPoints → ℕ → Player → Bool
+is_placed_at finals place player = (of_player finals player).place == place
 
 -- how many have a place
 abbrev pub sharers_at : ByPlayer FinalPoints → ℕ → ℕ
-sharers_at finals place = count_of (has_place finals place)
+sharers_at finals place = count_of (is_placed_at finals place)
 
 abbrev pub sharer_names : ByPlayer (List ℕ) → ByPlayer FinalPoints → ℕ → List ℕ
-sharer_names names finals place = of_four (λ player. name_if (has_place finals place player) (of_player names player))
+sharer_names names finals place = of_four (λ player. name_if (is_placed_at finals place player) (of_player names player))
 
 -- whether a place is one of so many from the first one on
-abbrev pub is_among : ℕ → ℕ → ℕ → Bool
-is_among first number place = nat_le first place && nat_lt place (first + number)
+abbrev pub is_taken_by : ℕ → ℕ → ℕ → Bool
+is_taken_by first number place = nat_le first place && nat_lt place (first + number)
 
-abbrev pub number_if : Bool → ℕ → List ℕ
-number_if holds number = if holds then codes " " ++ decimal number else []
+abbrev pub place_if : Bool → ℕ → List ℕ
+place_if holds number = if holds then codes " " ++ decimal number else []
 
 -- ` 2 3`
 abbrev pub places_words : ℕ → ℕ → List ℕ
 places_words first number =
-    number_if (is_among first number 1) 1 ++ number_if (is_among first number 2) 2
-    ++ number_if (is_among first number 3) 3 ++ number_if (is_among first number 4) 4
+    place_if (is_taken_by first number 1) 1 ++ place_if (is_taken_by first number 2) 2
+    ++ place_if (is_taken_by first number 3) 3 ++ place_if (is_taken_by first number 4) 4
 
 abbrev pub bonus_if : TableRules → Bool → ℕ → List ℕ
 bonus_if rules holds place = if holds then codes " " ++ change_text (place_bonus rules place) else []
@@ -40,8 +40,8 @@ bonus_if rules holds place = if holds then codes " " ++ change_text (place_bonus
 -- ` +5000 -5000`
 abbrev pub bonuses_words : TableRules → ℕ → ℕ → List ℕ
 bonuses_words rules first number =
-    bonus_if rules (is_among first number 1) 1 ++ bonus_if rules (is_among first number 2) 2
-    ++ bonus_if rules (is_among first number 3) 3 ++ bonus_if rules (is_among first number 4) 4
+    bonus_if rules (is_taken_by first number 1) 1 ++ bonus_if rules (is_taken_by first number 2) 2
+    ++ bonus_if rules (is_taken_by first number 3) 3 ++ bonus_if rules (is_taken_by first number 4) 4
 
 -- `  places 2 3 shared by Bo Cyd: +5000 -5000 in 2 parts`
 abbrev pub shared_line : ByPlayer (List ℕ) → TableRules → ByPlayer FinalPoints → ℕ → ℕ → List ℕ

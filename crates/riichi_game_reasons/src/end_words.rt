@@ -63,12 +63,7 @@ fn push_below_zero(text: &mut AnswerText, names: &Names, points: &ByPlayer<i32>)
 }
 
 /// Writes who has the points for which no round more is played.
-fn push_enough(
-    text: &mut AnswerText,
-    names: &Names,
-    points: &ByPlayer<i32>,
-    extra: Option<u32>,
-)
+fn push_enough(text: &mut AnswerText, names: &Names, points: &ByPlayer<i32>, extra: Option<u32>)
     requires { array_string_len text.old + MOST_ENOUGH ≤ ANSWER_ROOM }
     ensures bytes { text.new.bytes
         ≡ text.old.bytes ++ spec.enough_words (names_in names.now) points.now extra }
@@ -89,10 +84,26 @@ fn push_with_so_many(text: &mut AnswerText, names: &Names, points: &ByPlayer<i32
         ≡ text.old.bytes ++ spec.with_so_many (names_in names.now) points.now most }
     ensures len { array_string_len text.new ≤ array_string_len text.old + MOST_NAMES }
 {
-    push_name_if(text, has_at_least(points.first, most), &names.get(Player::First));
-    push_name_if(text, has_at_least(points.second, most), &names.get(Player::Second));
-    push_name_if(text, has_at_least(points.third, most), &names.get(Player::Third));
-    push_name_if(text, has_at_least(points.fourth, most), &names.get(Player::Fourth));
+    push_name_if(
+        text,
+        has_at_least(points.first, most),
+        &names.get(Player::First),
+    );
+    push_name_if(
+        text,
+        has_at_least(points.second, most),
+        &names.get(Player::Second),
+    );
+    push_name_if(
+        text,
+        has_at_least(points.third, most),
+        &names.get(Player::Third),
+    );
+    push_name_if(
+        text,
+        has_at_least(points.fourth, most),
+        &names.get(Player::Fourth),
+    );
 }
 
 /// Writes a name behind a space, where something holds of the player.

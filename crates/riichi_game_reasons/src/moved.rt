@@ -29,13 +29,7 @@ const MOST_TAKEN: usize = " takes the own bet back: ".len() + MOST_U32;
 pub const MOST_MOVE: usize = "  ".len() + MOST_PAID + ": ".len() + MOST_WHY;
 
 /// Writes what is moved, and why, without the line's end: a move of this outcome, with so many counters on the table.
-pub fn push_move(
-    text: &mut AnswerText,
-    names: &Names,
-    counters: u8,
-    outcome: &Outcome,
-    step: &Move,
-)
+pub fn push_move(text: &mut AnswerText, names: &Names, counters: u8, outcome: &Outcome, step: &Move)
     requires { array_string_len text.old + MOST_MOVE ≤ ANSWER_ROOM }
     ensures bytes { text.new.bytes
         ≡ text.old.bytes ++ spec.move_line (names_in names.now) counters outcome.now step.now }
@@ -119,13 +113,7 @@ fn push_lying(text: &mut AnswerText, count: u16)
 }
 
 /// Writes why points are paid to a player who has won so much, where this one has.
-fn push_why(
-    text: &mut AnswerText,
-    counters: u8,
-    outcome: &Outcome,
-    win: Option<Win>,
-    why: Reason,
-)
+fn push_why(text: &mut AnswerText, counters: u8, outcome: &Outcome, win: Option<Win>, why: Reason)
     requires { array_string_len text.old + MOST_WHY ≤ ANSWER_ROOM }
     ensures bytes { text.new.bytes
         ≡ text.old.bytes ++ spec.why_words counters outcome.now win why }
@@ -240,10 +228,12 @@ fn push_parted(text: &mut AnswerText, win: Option<Win>)
     ensures bytes { text.new.bytes ≡ text.old.bytes ++ spec.parted_words win }
     ensures len { array_string_len text.new ≤ array_string_len text.old + MOST_COUNT }
 {
-    if let Some(Win {
-        liable: Some(liable),
-        ..
-    }) = win
+    if let Some(
+        Win {
+            liable: Some(liable),
+            ..
+        },
+    ) = win
     {
         push_limits(text, liable.limits);
     }

@@ -65,13 +65,33 @@ pub fn push_final_reasons(
     push_if_shared(text, names, rules, finals, 2);
     push_if_shared(text, names, rules, finals, 3);
     push_if_shared(text, names, rules, finals, 4);
-    push_sum(text, &names.get(Player::First), rules.returns, &finals.first);
+    push_sum(
+        text,
+        &names.get(Player::First),
+        rules.returns,
+        &finals.first,
+    );
     text.push_str("\n");
-    push_sum(text, &names.get(Player::Second), rules.returns, &finals.second);
+    push_sum(
+        text,
+        &names.get(Player::Second),
+        rules.returns,
+        &finals.second,
+    );
     text.push_str("\n");
-    push_sum(text, &names.get(Player::Third), rules.returns, &finals.third);
+    push_sum(
+        text,
+        &names.get(Player::Third),
+        rules.returns,
+        &finals.third,
+    );
     text.push_str("\n");
-    push_sum(text, &names.get(Player::Fourth), rules.returns, &finals.fourth);
+    push_sum(
+        text,
+        &names.get(Player::Fourth),
+        rules.returns,
+        &finals.fourth,
+    );
 }
 
 /// Writes the line of a place, where several have it.
@@ -143,24 +163,24 @@ fn push_places(text: &mut AnswerText, first: u8, number: u8)
     ensures bytes { text.new.bytes ≡ text.old.bytes ++ spec.places_words first number }
     ensures len { array_string_len text.new ≤ array_string_len text.old + MOST_PLACES }
 {
-    push_place_if(text, is_among(first, number, 1), 1);
-    push_place_if(text, is_among(first, number, 2), 2);
-    push_place_if(text, is_among(first, number, 3), 3);
-    push_place_if(text, is_among(first, number, 4), 4);
+    push_place_if(text, is_taken_by(first, number, 1), 1);
+    push_place_if(text, is_taken_by(first, number, 2), 2);
+    push_place_if(text, is_taken_by(first, number, 3), 3);
+    push_place_if(text, is_taken_by(first, number, 4), 4);
 }
 
 /// Whether a place is one of so many from the first one on.
-fn is_among(first: u8, number: u8, place: u8) -> bool
+fn is_taken_by(first: u8, number: u8, place: u8) -> bool
     requires first { first ≤ 4 }
     requires number { number ≤ 4 }
-    ensures { result ≡ spec.is_among first number place }
+    ensures { result ≡ spec.is_taken_by first number place }
 {
     first <= place && place < first + number
 }
 
 fn push_place_if(text: &mut AnswerText, holds: bool, place: u8)
     requires { array_string_len text.old + 1 + MOST_U8 ≤ ANSWER_ROOM }
-    ensures bytes { text.new.bytes ≡ text.old.bytes ++ spec.number_if holds place }
+    ensures bytes { text.new.bytes ≡ text.old.bytes ++ spec.place_if holds place }
     ensures len { array_string_len text.new ≤ array_string_len text.old + 1 + MOST_U8 }
 {
     if holds {
@@ -177,9 +197,17 @@ fn push_sharers(text: &mut AnswerText, names: &Names, finals: &ByPlayer<FinalPoi
     ensures len { array_string_len text.new ≤ array_string_len text.old + MOST_SHARERS }
 {
     push_name_if(text, finals.first.place == place, &names.get(Player::First));
-    push_name_if(text, finals.second.place == place, &names.get(Player::Second));
+    push_name_if(
+        text,
+        finals.second.place == place,
+        &names.get(Player::Second),
+    );
     push_name_if(text, finals.third.place == place, &names.get(Player::Third));
-    push_name_if(text, finals.fourth.place == place, &names.get(Player::Fourth));
+    push_name_if(
+        text,
+        finals.fourth.place == place,
+        &names.get(Player::Fourth),
+    );
 }
 
 /// Writes the bonuses of so many places from the first one on.
@@ -190,10 +218,10 @@ fn push_bonuses(text: &mut AnswerText, rules: &TableRules, first: u8, number: u8
     ensures bytes { text.new.bytes ≡ text.old.bytes ++ spec.bonuses_words rules.now first number }
     ensures len { array_string_len text.new ≤ array_string_len text.old + MOST_BONUSES }
 {
-    push_bonus_if(text, rules, is_among(first, number, 1), 1);
-    push_bonus_if(text, rules, is_among(first, number, 2), 2);
-    push_bonus_if(text, rules, is_among(first, number, 3), 3);
-    push_bonus_if(text, rules, is_among(first, number, 4), 4);
+    push_bonus_if(text, rules, is_taken_by(first, number, 1), 1);
+    push_bonus_if(text, rules, is_taken_by(first, number, 2), 2);
+    push_bonus_if(text, rules, is_taken_by(first, number, 3), 3);
+    push_bonus_if(text, rules, is_taken_by(first, number, 4), 4);
 }
 
 fn push_bonus_if(text: &mut AnswerText, rules: &TableRules, holds: bool, place: u8)
