@@ -149,7 +149,8 @@ impl GameAtHand {
     /// Puts how the final points are made, where that is told. The last line stays in the room of texts, as that before it does.
     fn put_below_end(&self, form: GamesForm, outbox: &mut Outbox)
         requires { HasRoomBelow MOST_BELOW_END outbox.old }
-        ensures pending { pending outbox.new ≡ pending outbox.old ++ spec.below_end_of form self.now }
+        ensures pending { pending outbox.new
+            ≡ pending outbox.old ++ spec.below_end_of form self.now }
         ensures room { length (pending outbox.new) ≤ length (pending outbox.old) + MOST_BELOW_END }
     {
         if form.is_explained() && self.has_ended() {

@@ -56,7 +56,8 @@ impl Games {
     fn take(&mut self, front: Option<u64>, line: &[u8], outbox: &mut Outbox) -> LineKind
         requires { HasRoomForLine outbox.old }
         ensures given { TellsAlike self.new self.old }
-        ensures reply { (reply : Reply) × IsReply self.old.form self.old.given self.old.desk line.now reply
+        ensures reply { (reply : Reply)
+            × IsReply self.old.form self.old.given self.old.desk line.now reply
             × Puts front reply result outbox.old.bytes.items outbox.new.bytes.items self.new.desk }
     {
         if is_odd(line) {
