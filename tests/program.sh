@@ -547,6 +547,30 @@ row 0 "$begun
 $first
 $stands" '' game -
 row 2 '' "error: --rules has no rule \`red\`" game --rules 1+red "$room/good.game"
+# with reasons, also behind the numbers of lines
+row 0 "$begun
+$first
+  Cyd pays Bo 1000: ron, 240 base points
+$stands" '' game --explain "$room/good.game"
+row 0 "1:$begun
+2:$first
+  Cyd pays Bo 1000: ron, 240 base points
+$stands" '' game --number --explain "$room/good.game"
+row 1 "$begun
+refused G5
+$held" '' game --explain "$room/wrong.game"
+row 0 "$begun
+  over: end was said
+over
+final 1 Anna points 30000 bonus 0.0 penalty 0 total 0.0
+final 1 Bo points 30000 bonus 0.0 penalty 0 total 0.0
+final 1 Cyd points 30000 bonus 0.0 penalty 0 total 0.0
+final 1 Dee points 30000 bonus 0.0 penalty 0 total 0.0
+  places 1 2 3 4 shared by Anna Bo Cyd Dee: +15000 +5000 -5000 -15000 in 4 parts
+  Anna: (30000 - 30000) + bonus 0 - penalty 0 = 0
+  Bo: (30000 - 30000) + bonus 0 - penalty 0 = 0
+  Cyd: (30000 - 30000) + bonus 0 - penalty 0 = 0
+  Dee: (30000 - 30000) + bonus 0 - penalty 0 = 0" '' game --explain "$room/over.game"
 # read as record lines, such a text is answered as one, and said to be one of games
 note='the first line begins a game of four players; `riichi_desk game` reads such a text'
 row 1 $'refused H2\nrefused H2' "standard input: $note" line

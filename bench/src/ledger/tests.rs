@@ -208,7 +208,7 @@ fn worked_deals() {
 #[test]
 fn texts_of_the_page() {
     let page = include_str!("../../../docs/GAME.md");
-    let blocks: Vec<&str> = page.split("```\n").skip(1).step_by(2).collect();
+    let blocks: Vec<&str> = page.split("```\n").skip(1).step_by(2).filter(|block| block.contains("\n=> ")).collect();
     assert!(blocks.len() > 15);
     for block in blocks {
         let (wanted, text): (Vec<&str>, Vec<&str>) = block.lines().partition(|line| line.starts_with("=> "));

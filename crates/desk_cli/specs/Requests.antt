@@ -16,6 +16,8 @@ use Rattle.desk_cli.specs.declared.command.CommandName.{CommandName}
 use Rattle.desk_cli.specs.declared.command.CommandName.TheVariants as commands
 use Rattle.desk_cli.specs.declared.request.Form.{Form}
 use Rattle.desk_cli.specs.declared.request.Form.TheVariants as forms
+use Rattle.desk_cli.specs.declared.request.GameForm.{GameForm}
+use Rattle.desk_cli.specs.declared.request.GameForm.TheVariants as game_forms
 use Rattle.desk_cli.specs.declared.request.Lines.{Lines}
 use Rattle.desk_cli.specs.declared.request.Lines.TheVariants as sources
 use Rattle.desk_cli.specs.declared.request.Manner.{Manner}
@@ -160,11 +162,17 @@ AsksForScore found (Some (requests.Score files workers rules is_numbered is_quie
 AsksForScore found (Some (requests.UnknownRules word)) = IsUnknown found word.now
 AsksForScore found (Some other) = ⊥
 
+-- `game` answers in words, and with --explain says below each answer what is paid and why
+pub record IsGameForm (found : Found) (form : GameForm) : Type 0 where
+  pub explain : Bool
+  pub is_given : IsFlag found (codes "explain") explain
+  pub form_is : form ≡ (if explain then game_forms.Explained else game_forms.Answers)
+
 -- texts of games: those of files, or of standard input where none is named
 abbrev pub AsksForGames : Found → Request → Type 0
 AsksForGames found (requests.Games files manner) =
     (option_map (λ named. texts named.now) files ≡ words_under found (codes "FILE")) × NamesRules (rules_option found) manner.rules
-    × IsFlag found (codes "number") manner.is_numbered
+    × IsFlag found (codes "number") manner.is_numbered × IsGameForm found manner.form
 AsksForGames found (requests.UnknownRules word) = IsUnknown found word.now
 AsksForGames found other = ⊥
 

@@ -120,6 +120,7 @@ pub(crate) const GAME_HELP: &str = with_statuses!(
 Example:
   riichi_desk game evening.game
   riichi_desk game --rules 1+red-fives < evening.game
+  riichi_desk game --explain evening.game
 
 A game is typed as it is played, a line for each deal:
   game Anna Bo Cyd Dee

@@ -60,6 +60,16 @@ pub struct GameManner {
     pub rules: Rules,
     /// Whether each answer stands behind the number of its line.
     pub is_numbered: bool,
+    pub form: GameForm,
+}
+
+/// How answers to games are written.
+#[derive(Clone, Copy, Debug, PartialEq, Eq)]
+pub enum GameForm {
+    /// In words, a line for each.
+    Answers,
+    /// The same, with what is paid and why below each.
+    Explained,
 }
 
 /// What a player needs for a place in the next deal of the last game of a file.
@@ -233,9 +243,21 @@ fn games_request<'m, 'a>(words: &'m ArgMatches<'a>) -> Request<'m, 'a>
             manner: GameManner {
                 rules,
                 is_numbered: words.get_flag("number"),
+                form: game_form_in(words),
             },
         },
         Err(word) => Request::UnknownRules(word),
+    }
+}
+
+/// The form that answers to games are wanted in.
+fn game_form_in(words: &ArgMatches<'_>) -> GameForm
+    ensures { spec.IsGameForm (found_of words.now) result }
+{
+    if words.get_flag("explain") {
+        GameForm::Explained
+    } else {
+        GameForm::Answers
     }
 }
 

@@ -289,6 +289,7 @@ fn game_command<'a>(alloc: Global) -> Result<Command<'a>, AllocError> {
         .about("Keeps the points of games of four: what each deal changes, and the final points")
         .after_help(GAME_HELP)
         .arg(hand_rules_arg(alloc))?
+        .arg(explain_arg(alloc))?
         .arg(number_arg(alloc))?
         .arg(games_arg(alloc))
 }
@@ -301,6 +302,15 @@ fn need_command<'a>(alloc: Global) -> Result<Command<'a>, AllocError> {
         .arg(hand_rules_arg(alloc))?
         .arg(bets_arg(alloc))?
         .arg(question_arg(alloc))
+}
+
+/// That it is wanted to be said who pays whom and why.
+fn explain_arg<'a>(alloc: Global) -> Arg<'a> {
+    flag(
+        alloc,
+        "explain",
+        "Says below each deal who pays whom and why, and below a game's end how its totals add up",
+    )
 }
 
 /// The rules for hands of games that name none.

@@ -14,6 +14,7 @@ use Rattle.desk_games.specs.Replies.{LineOfGame, Odd, Blank, Begins, Undo, Entry
 use Rattle.desk_games.specs.Laws.{is_begin, is_undo, outcomes_in, refuses, GoesOnByOutcomes, HeldTakesNone}
 use Rattle.desk_games.specs.declared.desk.GameDesk.{GameDesk}
 use Rattle.desk_games.specs.declared.desk.GameDesk.TheVariants as desk
+use Rattle.desk_games.specs.declared.form.GamesForm.{GamesForm}
 
 -- the game behind lines that said these outcomes, where one was refused, or none
 abbrev pub gone_on : GameSoFar → Option Progress → List Outcome → Bool → GameSoFar
@@ -45,24 +46,24 @@ refused_so game fault = (game.former, ap (λ (held : Bool). desk.Game (record ga
 blank_so : (game : GameSoFar) → GoesOn game (blank_reply (desk.Game game))
 blank_so game = (game.former, ap (λ (held : Bool). desk.Game (record game { is_held = held })) (sym (or_false game.is_held)))
 
-entry_so : (game : GameSoFar) (entry : Result Outcome GameFault) → GoesOn game (entry_reply game entry)
-entry_so game (Err fault) = refused_so game fault
-entry_so game (Ok outcome) = (
+entry_so : (form : GamesForm) (game : GameSoFar) (entry : Result Outcome GameFault) → GoesOn game (entry_reply form game entry)
+entry_so form game (Err fault) = refused_so game fault
+entry_so form game (Ok outcome) = (
   Some game.progress,
   ap (λ (held : Bool). desk.Game (record { names = game.names; rules = game.rules; progress = after_all game.progress game.rules (outcome ∷ []); former = Some game.progress; is_held = held })) (sym (or_false game.is_held)),
 )
 
-either_so : (game : GameSoFar) (held : Bool) (entry : Result Outcome GameFault) → GoesOn game (if held then refusal (desk.Game game) G14 else entry_reply game entry)
-either_so game true entry = refused_so game G14
-either_so game false entry = entry_so game entry
+either_so : (form : GamesForm) (game : GameSoFar) (held : Bool) (entry : Result Outcome GameFault) → GoesOn game (if held then refusal (desk.Game game) G14 else entry_reply form game entry)
+either_so form game true entry = refused_so game G14
+either_so form game false entry = entry_so form game entry
 
-goes_on_one : (given : Rules) (game : GameSoFar) (seen : LineOfGame) (line : List ℕ) (reply : Reply) → is_begin seen ≡ false → is_undo seen ≡ false → IsReplyTo given (desk.Game game) seen line reply → GoesOn game reply
-goes_on_one given game Odd line reply other keeps is = subst (λ (r : Reply). GoesOn game r) (sym is) (refused_so game G1)
-goes_on_one given game Blank line reply other keeps is = subst (λ (r : Reply). GoesOn game r) (sym is) (blank_so game)
-goes_on_one given game (Begins words) line reply other keeps is = absurd (cc)
-goes_on_one given game Undo line reply other keeps is = absurd (cc)
-goes_on_one given game Entry line reply other keeps is =
-    subst (λ (r : Reply). GoesOn game r) (sym is) (either_so game game.is_held (entry_of game.names game.progress game.rules line))
+goes_on_one : (form : GamesForm) (given : Rules) (game : GameSoFar) (seen : LineOfGame) (line : List ℕ) (reply : Reply) → is_begin seen ≡ false → is_undo seen ≡ false → IsReplyTo form given (desk.Game game) seen line reply → GoesOn game reply
+goes_on_one form given game Odd line reply other keeps is = subst (λ (r : Reply). GoesOn game r) (sym is) (refused_so game G1)
+goes_on_one form given game Blank line reply other keeps is = subst (λ (r : Reply). GoesOn game r) (sym is) (blank_so game)
+goes_on_one form given game (Begins words) line reply other keeps is = absurd (cc)
+goes_on_one form given game Undo line reply other keeps is = absurd (cc)
+goes_on_one form given game Entry line reply other keeps is =
+    subst (λ (r : Reply). GoesOn game r) (sym is) (either_so form game game.is_held (entry_of game.names game.progress game.rules line))
 
 -- ---- more lines
 
@@ -78,15 +79,15 @@ one_more game former later (Some outcome) refused others outcomes =
     ap (λ (held : Bool). record { names = game.names; rules = game.rules; progress = after_all game.progress game.rules (outcome ∷ outcomes); former = later; is_held = held }) (or_assoc game.is_held refused others)
 
 pub goes_on_by_outcomes : GoesOnByOutcomes
-goes_on_by_outcomes given game [] replies last none keep are =
+goes_on_by_outcomes form given game [] replies last none keep are =
     let blank = blank_so game in
     (blank.0, are.1 ∙ blank.1 ∙ ap (λ (rs : List Reply). desk.Game (gone_on game blank.0 (outcomes_in rs) (list_any refuses rs))) (sym are.0))
-goes_on_by_outcomes given game (line ∷ lines) replies last none keep are =
+goes_on_by_outcomes form given game (line ∷ lines) replies last none keep are =
     let reply = are.0 in
     let others = are.1 in
-    let one : GoesOn game reply = goes_on_one given game (seen_in line) line reply none.0 keep.0 are.2 in
+    let one : GoesOn game reply = goes_on_one form given game (seen_in line) line reply none.0 keep.0 are.2 in
     let after = gone_on game one.0 (cons_option reply.outcome []) (refuses reply) in
-    let rest = goes_on_by_outcomes given after lines others last none.1 keep.1 (subst (λ (d : GameDesk). AreReplies given d lines others last) one.1 are.4) in (
+    let rest = goes_on_by_outcomes form given after lines others last none.1 keep.1 (subst (λ (d : GameDesk). AreReplies form given d lines others last) one.1 are.4) in (
       rest.0,
       rest.1 ∙ ap desk.Game (one_more game one.0 rest.0 reply.outcome (refuses reply) (list_any refuses others) (outcomes_in others))
           ∙ ap (λ (rs : List Reply). desk.Game (gone_on game rest.0 (outcomes_in rs) (list_any refuses rs))) (sym are.3),
@@ -94,23 +95,23 @@ goes_on_by_outcomes given game (line ∷ lines) replies last none keep are =
 
 -- ---- behind a refused line
 
-none_taken : (given : Rules) (game : GameSoFar) (seen : LineOfGame) (line : List ℕ) (reply : Reply) → is_begin seen ≡ false → is_undo seen ≡ false → game.is_held ≡ true → IsReplyTo given (desk.Game game) seen line reply → reply.outcome ≡ None
-none_taken given game Odd line reply other keeps held is = ap (λ (r : Reply). r.outcome) is
-none_taken given game Blank line reply other keeps held is = ap (λ (r : Reply). r.outcome) is
-none_taken given game (Begins words) line reply other keeps held is = absurd (cc)
-none_taken given game Undo line reply other keeps held is = absurd (cc)
-none_taken given game Entry line reply other keeps held is =
+none_taken : (form : GamesForm) (given : Rules) (game : GameSoFar) (seen : LineOfGame) (line : List ℕ) (reply : Reply) → is_begin seen ≡ false → is_undo seen ≡ false → game.is_held ≡ true → IsReplyTo form given (desk.Game game) seen line reply → reply.outcome ≡ None
+none_taken form given game Odd line reply other keeps held is = ap (λ (r : Reply). r.outcome) is
+none_taken form given game Blank line reply other keeps held is = ap (λ (r : Reply). r.outcome) is
+none_taken form given game (Begins words) line reply other keeps held is = absurd (cc)
+none_taken form given game Undo line reply other keeps held is = absurd (cc)
+none_taken form given game Entry line reply other keeps held is =
     ap (λ (r : Reply). r.outcome) is
-    ∙ ap (λ (b : Bool). (if b then refusal (desk.Game game) G14 else entry_reply game (entry_of game.names game.progress game.rules line)).outcome) held
+    ∙ ap (λ (b : Bool). (if b then refusal (desk.Game game) G14 else entry_reply form game (entry_of game.names game.progress game.rules line)).outcome) held
 
 pub held_takes_none : HeldTakesNone
-held_takes_none given game [] replies last none keep held are = ap outcomes_in are.0
-held_takes_none given game (line ∷ lines) replies last none keep held are =
+held_takes_none form given game [] replies last none keep held are = ap outcomes_in are.0
+held_takes_none form given game (line ∷ lines) replies last none keep held are =
     let reply = are.0 in
     let others = are.1 in
-    let one : GoesOn game reply = goes_on_one given game (seen_in line) line reply none.0 keep.0 are.2 in
-    let no_outcome = none_taken given game (seen_in line) line reply none.0 keep.0 held are.2 in
+    let one : GoesOn game reply = goes_on_one form given game (seen_in line) line reply none.0 keep.0 are.2 in
+    let no_outcome = none_taken form given game (seen_in line) line reply none.0 keep.0 held are.2 in
     let after = gone_on game one.0 (cons_option reply.outcome []) (refuses reply) in
     let still : after.is_held ≡ true = ap (λ (b : Bool). b || refuses reply) held in
-    let rest = held_takes_none given after lines others last none.1 keep.1 still (subst (λ (d : GameDesk). AreReplies given d lines others last) one.1 are.4) in
+    let rest = held_takes_none form given after lines others last none.1 keep.1 still (subst (λ (d : GameDesk). AreReplies form given d lines others last) one.1 are.4) in
     ap outcomes_in are.3 ∙ ap (λ (outcome : Option Outcome). cons_option outcome (outcomes_in others)) no_outcome ∙ rest

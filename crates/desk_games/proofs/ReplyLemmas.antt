@@ -13,8 +13,10 @@ use Rattle.desk_lines.specs.declared.report.DeskReport.{DeskReport}
 use Rattle.desk_lines.specs.Telling.{IsToldAs, answers_in, report_of, report_with}
 use Rattle.desk_lines.proofs.TellingLemmas.{report_of_more}
 use Rattle.desk_games.specs.Replies.{LineOfGame, Odd, Blank, Begins, Undo, Entry, says_undo, line_of_words, seen_in, Reply, blank_reply, refusal, undo_reply, other_reply, IsReply, IsReplyTo, AreReplies}
-use Rattle.desk_games.specs.Texts.{answer_text, number_if, answers_from, kind_in, Puts, AnswersLines}
+use Rattle.desk_games.specs.Texts.{text_of_reply, number_if, answers_from, kind_in, PutsReply, AnswersLines}
+use Rattle.desk_games.specs.Tellers.{TellsAlike, HasTold}
 use Rattle.desk_games.specs.declared.desk.GameDesk.{GameDesk}
+use Rattle.desk_games.specs.declared.form.GamesForm.{GamesForm}
 use Rattle.desk_games.specs.declared.games.Games.{Games}
 
 -- ---- what a line is
@@ -31,29 +33,29 @@ begins_if first words is same = ap (λ (b : Bool). if b then Begins words else i
 undoes_if : (first : List ℕ) (words : List (List ℕ)) (is : Bool) → bytes_eq first (codes "game") ≡ false → says_undo first words ≡ is → line_of_words (first ∷ words) ≡ (if is then Undo else Entry)
 undoes_if first words is other same = begins_if first words false other ∙ ap (λ (b : Bool). if b then Undo else Entry) same
 
-reply_by : (given : Rules) (now : GameDesk) (line : List ℕ) (seen : LineOfGame) (reply : Reply) → seen_in line ≡ seen → IsReplyTo given now seen line reply → IsReply given now line reply
-reply_by given now line seen reply seen_is is = subst (λ (s : LineOfGame). IsReplyTo given now s line reply) (sym seen_is) is
+reply_by : (form : GamesForm) (given : Rules) (now : GameDesk) (line : List ℕ) (seen : LineOfGame) (reply : Reply) → seen_in line ≡ seen → IsReplyTo form given now seen line reply → IsReply form given now line reply
+reply_by form given now line seen reply seen_is is = subst (λ (s : LineOfGame). IsReplyTo form given now s line reply) (sym seen_is) is
 
-pub odd_reply : (given : Rules) (now : GameDesk) (line : List ℕ) → is_odd line ≡ true → IsReply given now line (refusal now G1)
-odd_reply given now line odd = reply_by given now line Odd (refusal now G1) (seen_odd line odd) refl
+pub odd_reply : (form : GamesForm) (given : Rules) (now : GameDesk) (line : List ℕ) → is_odd line ≡ true → IsReply form given now line (refusal now G1)
+odd_reply form given now line odd = reply_by form given now line Odd (refusal now G1) (seen_odd line odd) refl
 
-pub no_reply : (given : Rules) (now : GameDesk) (line : List ℕ) → is_odd line ≡ false → said_in line ≡ [] → IsReply given now line (blank_reply now)
-no_reply given now line even said = reply_by given now line Blank (blank_reply now) (seen_by line [] even said) refl
+pub no_reply : (form : GamesForm) (given : Rules) (now : GameDesk) (line : List ℕ) → is_odd line ≡ false → said_in line ≡ [] → IsReply form given now line (blank_reply now)
+no_reply form given now line even said = reply_by form given now line Blank (blank_reply now) (seen_by line [] even said) refl
 
-pub begin_replied : (given : Rules) (now : GameDesk) (line first rest : List ℕ) (reply : Reply) → is_odd line ≡ false → said_in line ≡ first ∷ said_in rest → bytes_eq first (codes "game") ≡ true
-    → IsReplyTo given now (Begins (said_in rest)) rest reply → IsReply given now line reply
-begin_replied given now line first rest reply even said same is =
-    reply_by given now line (Begins (said_in rest)) reply (seen_by line (first ∷ said_in rest) even said ∙ begins_if first (said_in rest) true same) is
+pub begin_replied : (form : GamesForm) (given : Rules) (now : GameDesk) (line first rest : List ℕ) (reply : Reply) → is_odd line ≡ false → said_in line ≡ first ∷ said_in rest → bytes_eq first (codes "game") ≡ true
+    → IsReplyTo form given now (Begins (said_in rest)) rest reply → IsReply form given now line reply
+begin_replied form given now line first rest reply even said same is =
+    reply_by form given now line (Begins (said_in rest)) reply (seen_by line (first ∷ said_in rest) even said ∙ begins_if first (said_in rest) true same) is
 
-pub undo_replied : (given : Rules) (now : GameDesk) (line first rest : List ℕ) → is_odd line ≡ false → said_in line ≡ first ∷ said_in rest → bytes_eq first (codes "game") ≡ false
-    → says_undo first (said_in rest) ≡ true → IsReply given now line (undo_reply now)
-undo_replied given now line first rest even said other undo =
-    reply_by given now line Undo (undo_reply now) (seen_by line (first ∷ said_in rest) even said ∙ undoes_if first (said_in rest) true other undo) refl
+pub undo_replied : (form : GamesForm) (given : Rules) (now : GameDesk) (line first rest : List ℕ) → is_odd line ≡ false → said_in line ≡ first ∷ said_in rest → bytes_eq first (codes "game") ≡ false
+    → says_undo first (said_in rest) ≡ true → IsReply form given now line (undo_reply now)
+undo_replied form given now line first rest even said other undo =
+    reply_by form given now line Undo (undo_reply now) (seen_by line (first ∷ said_in rest) even said ∙ undoes_if first (said_in rest) true other undo) refl
 
-pub entry_replied : (given : Rules) (now : GameDesk) (line first rest : List ℕ) → is_odd line ≡ false → said_in line ≡ first ∷ said_in rest → bytes_eq first (codes "game") ≡ false
-    → says_undo first (said_in rest) ≡ false → IsReply given now line (other_reply now line)
-entry_replied given now line first rest even said other keeps =
-    reply_by given now line Entry (other_reply now line) (seen_by line (first ∷ said_in rest) even said ∙ undoes_if first (said_in rest) false other keeps) refl
+pub entry_replied : (form : GamesForm) (given : Rules) (now : GameDesk) (line first rest : List ℕ) → is_odd line ≡ false → said_in line ≡ first ∷ said_in rest → bytes_eq first (codes "game") ≡ false
+    → says_undo first (said_in rest) ≡ false → IsReply form given now line (other_reply form now line)
+entry_replied form given now line first rest even said other keeps =
+    reply_by form given now line Entry (other_reply form now line) (seen_by line (first ∷ said_in rest) even said ∙ undoes_if first (said_in rest) false other keeps) refl
 
 -- the answer to a line `game` stands behind the end of the game before it
 pub put_behind_end : (before mid after ended answer : List ℕ) → mid ≡ before ++ ended → after ≡ mid ++ (answer ++ 10 ∷ []) → after ≡ before ++ ((ended ++ answer) ++ 10 ∷ [])
@@ -71,31 +73,31 @@ long_seen : (line : List ℕ) → 4096 < length line → seen_in line ≡ Odd
 long_seen line long = seen_odd line (long_is_odd line long)
 
 -- a line may have the reply to this one
-reply_as : (given : Rules) (now : GameDesk) (line next : List ℕ) (reply : Reply) → IsToldAs 4096 line next → IsReply given now line reply → IsReply given now next reply
-reply_as given now line next reply (inl same) is = subst (λ (l : List ℕ). IsReply given now l reply) same is
-reply_as given now line next reply (inr long) is =
-    let odd : reply ≡ refusal now G1 = subst (λ (seen : LineOfGame). IsReplyTo given now seen line reply) (long_seen line long.0) is in
-    subst (λ (seen : LineOfGame). IsReplyTo given now seen next reply) (sym (long_seen next long.1)) odd
+reply_as : (form : GamesForm) (given : Rules) (now : GameDesk) (line next : List ℕ) (reply : Reply) → IsToldAs 4096 line next → IsReply form given now line reply → IsReply form given now next reply
+reply_as form given now line next reply (inl same) is = subst (λ (l : List ℕ). IsReply form given now l reply) same is
+reply_as form given now line next reply (inr long) is =
+    let odd : reply ≡ refusal now G1 = subst (λ (seen : LineOfGame). IsReplyTo form given now seen line reply) (long_seen line long.0) is in
+    subst (λ (seen : LineOfGame). IsReplyTo form given now seen next reply) (sym (long_seen next long.1)) odd
 
 -- ---- one more line
 
-replies_last : (given : Rules) (first now : GameDesk) (lines : List (List ℕ)) (line : List ℕ) (replies : List Reply) (reply : Reply) → AreReplies given first lines replies now
-    → IsReply given now line reply → AreReplies given first (lines ++ line ∷ []) (replies ++ reply ∷ []) reply.desk
-replies_last given first now [] line replies reply are is =
-    (reply, [], subst (λ (d : GameDesk). IsReply given d line reply) are.1 is, ap (λ (told : List Reply). told ++ reply ∷ []) are.0, (refl, refl))
-replies_last given first now (next ∷ lines) line replies reply are is = (
+replies_last : (form : GamesForm) (given : Rules) (first now : GameDesk) (lines : List (List ℕ)) (line : List ℕ) (replies : List Reply) (reply : Reply) → AreReplies form given first lines replies now
+    → IsReply form given now line reply → AreReplies form given first (lines ++ line ∷ []) (replies ++ reply ∷ []) reply.desk
+replies_last form given first now [] line replies reply are is =
+    (reply, [], subst (λ (d : GameDesk). IsReply form given d line reply) are.1 is, ap (λ (told : List Reply). told ++ reply ∷ []) are.0, (refl, refl))
+replies_last form given first now (next ∷ lines) line replies reply are is = (
   are.0,
   are.1 ++ reply ∷ [],
   are.2,
   ap (λ (told : List Reply). told ++ reply ∷ []) are.3,
-  replies_last given are.0.desk now lines line are.1 reply are.4 is,
+  replies_last form given are.0.desk now lines line are.1 reply are.4 is,
 )
 
 -- each line has one
-replies_length : (given : Rules) (first now : GameDesk) (lines : List (List ℕ)) (replies : List Reply) → AreReplies given first lines replies now → length replies ≡ length lines
-replies_length given first now [] replies are = ap length are.0
-replies_length given first now (line ∷ lines) replies are =
-    let others : length are.1 ≡ length lines = replies_length given are.0.desk now lines are.1 are.4 in
+replies_length : (form : GamesForm) (given : Rules) (first now : GameDesk) (lines : List (List ℕ)) (replies : List Reply) → AreReplies form given first lines replies now → length replies ≡ length lines
+replies_length form given first now [] replies are = ap length are.0
+replies_length form given first now (line ∷ lines) replies are =
+    let others : length are.1 ≡ length lines = replies_length form given are.0.desk now lines are.1 are.4 in
     let all : length replies ≡ length (are.0 ∷ are.1) = ap length are.3 in
     grind (arith, others, all)
 
@@ -104,46 +106,44 @@ onto_both Option.None answers more = refl
 onto_both (Option.Some answer) answers more = refl
 
 answers_last : (is_numbered : Bool) (number last : ℕ) (replies : List Reply) (reply : Reply) → last ≡ number + length replies
-    → answers_from is_numbered number (replies ++ reply ∷ []) ≡ answers_from is_numbered number replies ++ answers_in (answer_text (number_if is_numbered last) reply)
+    → answers_from is_numbered number (replies ++ reply ∷ []) ≡ answers_from is_numbered number replies ++ answers_in (text_of_reply (number_if is_numbered last) reply)
 answers_last is_numbered number last [] reply is =
-    let same : number ≡ last = grind (arith, is) in ap (λ n. answers_in (answer_text (number_if is_numbered n) reply)) same
+    let same : number ≡ last = grind (arith, is) in ap (λ n. answers_in (text_of_reply (number_if is_numbered n) reply)) same
 answers_last is_numbered number last (next ∷ replies) reply is =
-    ap (cons_option (answer_text (number_if is_numbered number) next)) (answers_last is_numbered (number + 1) last replies reply (grind (arith, is)))
-    ∙ onto_both (answer_text (number_if is_numbered number) next) (answers_from is_numbered (number + 1) replies) (answers_in (answer_text (number_if is_numbered last) reply))
+    ap (cons_option (text_of_reply (number_if is_numbered number) next)) (answers_last is_numbered (number + 1) last replies reply (grind (arith, is)))
+    ∙ onto_both (text_of_reply (number_if is_numbered number) next) (answers_from is_numbered (number + 1) replies) (answers_in (text_of_reply (number_if is_numbered last) reply))
 
 kinds_last : (replies : List Reply) (reply : Reply) → report_of (map kind_in (replies ++ reply ∷ [])) ≡ report_with (report_of (map kind_in replies)) reply.kind
 kinds_last replies reply = ap report_of (map-append kind_in replies (reply ∷ [])) ∙ report_of_more (map kind_in replies) reply.kind
 
-answers_line : (is_numbered : Bool) (given : Rules) (first old new : GameDesk) (lines answers : List (List ℕ)) (report : DeskReport) (number : ℕ) (line next : List ℕ) (reply : Reply) (kind : LineKind)
-    → number ≡ length lines + 1 → IsToldAs 4096 line next → AnswersLines is_numbered given first lines answers report old → IsReply given old line reply → kind ≡ reply.kind → new ≡ reply.desk
-    → AnswersLines is_numbered given first (lines ++ next ∷ []) (answers ++ answers_in (answer_text (number_if is_numbered number) reply)) (report_with report kind) new
-answers_line is_numbered given first old new lines answers report number line next reply kind counted as_this before is kind_is desk_is =
-    let count = replies_length given first old lines before.replies before.are in
+answers_line : (is_numbered : Bool) (form : GamesForm) (given : Rules) (first old new : GameDesk) (lines answers : List (List ℕ)) (report : DeskReport) (number : ℕ) (line next : List ℕ) (reply : Reply) (kind : LineKind)
+    → number ≡ length lines + 1 → IsToldAs 4096 line next → AnswersLines is_numbered form given first lines answers report old → IsReply form given old line reply → kind ≡ reply.kind → new ≡ reply.desk
+    → AnswersLines is_numbered form given first (lines ++ next ∷ []) (answers ++ answers_in (text_of_reply (number_if is_numbered number) reply)) (report_with report kind) new
+answers_line is_numbered form given first old new lines answers report number line next reply kind counted as_this before is kind_is desk_is =
+    let count = replies_length form given first old lines before.replies before.are in
     record {
       replies = before.replies ++ reply ∷ [];
-      are = subst (λ (d : GameDesk). AreReplies given first (lines ++ next ∷ []) (before.replies ++ reply ∷ []) d) (sym desk_is)
-          (replies_last given first old lines next before.replies reply before.are (reply_as given old line next reply as_this is));
-      answers_are = ap (λ (told : List (List ℕ)). told ++ answers_in (answer_text (number_if is_numbered number) reply)) before.answers_are
+      are = subst (λ (d : GameDesk). AreReplies form given first (lines ++ next ∷ []) (before.replies ++ reply ∷ []) d) (sym desk_is)
+          (replies_last form given first old lines next before.replies reply before.are (reply_as form given old line next reply as_this is));
+      answers_are = ap (λ (told : List (List ℕ)). told ++ answers_in (text_of_reply (number_if is_numbered number) reply)) before.answers_are
           ∙ sym (answers_last is_numbered 1 number before.replies reply (omega (arith, counted, count)));
       report_is = ap (λ (r : DeskReport). report_with r kind) before.report_is ∙ ap (report_with (report_of (map kind_in before.replies))) kind_is ∙ sym (kinds_last before.replies reply);
     }
 
 -- before the first line
-pub answers_none : (is_numbered : Bool) (given : Rules) (first : GameDesk) → AnswersLines is_numbered given first [] [] (report_of []) first
-answers_none is_numbered given first = record { replies = []; are = (refl, refl); answers_are = refl; report_is = refl }
+pub answers_none : (is_numbered : Bool) (form : GamesForm) (given : Rules) (first : GameDesk) → AnswersLines is_numbered form given first [] [] (report_of []) first
+answers_none is_numbered form given first = record { replies = []; are = (refl, refl); answers_are = refl; report_is = refl }
 
 -- one more line was told
 pub tells_line : (first old new : Games) (lines answers : List (List ℕ)) (report : DeskReport) (number : ℕ) (front : Option ℕ) (line next : List ℕ) (reply : Reply) (kind : LineKind) (before after : List ℕ)
-    → front ≡ number_if old.is_numbered number → (new.given ≡ old.given) × (new.is_numbered ≡ old.is_numbered) → IsReply old.given old.desk line reply → Puts front reply kind before after new.desk
-    → number ≡ length lines + 1 → IsToldAs 4096 line next
-    → (old.given ≡ first.given) × (old.is_numbered ≡ first.is_numbered) × AnswersLines first.is_numbered first.given first.desk lines answers report old.desk
-    → (new.given ≡ first.given) × (new.is_numbered ≡ first.is_numbered)
-    × AnswersLines first.is_numbered first.given first.desk (lines ++ next ∷ []) (answers ++ answers_in (answer_text front reply)) (report_with report kind) new.desk
+    → front ≡ number_if old.is_numbered number → TellsAlike new old → IsReply old.form old.given old.desk line reply → PutsReply front reply kind before after new.desk
+    → number ≡ length lines + 1 → IsToldAs 4096 line next → HasTold first old lines answers report
+    → HasTold first new (lines ++ next ∷ []) (answers ++ answers_in (text_of_reply front reply)) (report_with report kind)
 tells_line first old new lines answers report number front line next reply kind before after front_is same is puts counted as_this tells = (
-  same.0 ∙ tells.0,
-  same.1 ∙ tells.1,
-  subst (λ (f : Option ℕ). AnswersLines first.is_numbered first.given first.desk (lines ++ next ∷ []) (answers ++ answers_in (answer_text f reply)) (report_with report kind) new.desk)
-      (sym (front_is ∙ ap (λ (b : Bool). number_if b number) tells.1))
-      (answers_line first.is_numbered first.given first.desk old.desk new.desk lines answers report number line next reply kind counted as_this tells.2
-      (subst (λ (rules : Rules). IsReply rules old.desk line reply) tells.0 is) puts.kind_is puts.desk_is),
+  (same.0 ∙ tells.0.0, same.1 ∙ tells.0.1, same.2 ∙ tells.0.2),
+  subst (λ (f : Option ℕ). AnswersLines first.is_numbered first.form first.given first.desk (lines ++ next ∷ []) (answers ++ answers_in (text_of_reply f reply)) (report_with report kind) new.desk)
+      (sym (front_is ∙ ap (λ (b : Bool). number_if b number) tells.0.1))
+      (answers_line first.is_numbered first.form first.given first.desk old.desk new.desk lines answers report number line next reply kind counted as_this tells.1
+      (subst (λ (form : GamesForm). IsReply form first.given old.desk line reply) tells.0.2
+      (subst (λ (rules : Rules). IsReply old.form rules old.desk line reply) tells.0.0 is)) puts.kind_is puts.desk_is),
 )

@@ -15,40 +15,42 @@ use Rattle.desk_games.specs.Streams.{games_answers, TellsGames, TellsFront}
 use Rattle.desk_games.specs.Texts.{AnswersLines}
 use Rattle.desk_games.specs.declared.desk.GameDesk.{GameDesk}
 use Rattle.desk_games.specs.declared.desk.GameDesk.TheVariants.{NoGame}
+use Rattle.desk_games.specs.declared.form.GamesForm.{GamesForm}
 use Rattle.desk_games.specs.declared.games.Games.{Games}
 
-module _ {W : Type 0} (sink : OfSink W) (start old new : W) (answers : List (List ℕ)) (last : GameDesk) where
+module _ {W : Type 0} (sink : OfSink W) (start old new : W) (form : GamesForm) (answers : List (List ℕ)) (last : GameDesk) where
   -- the answers were written, and then the end of the last game
-  pub written_with_end : WritesAll sink start old (text_of answers) → WritesAll sink old new (with_line_feed (told_at_end last)) → WritesAll sink start new (games_answers answers last)
+  pub written_with_end : WritesAll sink start old (text_of answers) → WritesAll sink old new (with_line_feed (told_at_end form last)) → WritesAll sink start new (games_answers form answers last)
   written_with_end first then =
-      subst (λ (text : List ℕ). WritesAll sink start new text) (sym (text_of_more answers (told_at_end last))) (WritesAll-trans sink start old new (text_of answers) (with_line_feed (told_at_end last)) first then)
+      subst (λ (text : List ℕ). WritesAll sink start new text) (sym (text_of_more answers (told_at_end form last))) (WritesAll-trans sink start old new (text_of answers) (with_line_feed (told_at_end form last)) first then)
 
   -- the answers were written, and then the writing of the end stopped
-  pub stops_at_end : WritesAll sink start old (text_of answers) → StopsWriting sink old new (with_line_feed (told_at_end last)) → StopsWriting sink start new (games_answers answers last)
+  pub stops_at_end : WritesAll sink start old (text_of answers) → StopsWriting sink old new (with_line_feed (told_at_end form last)) → StopsWriting sink start new (games_answers form answers last)
   stops_at_end first then =
-      subst (λ (text : List ℕ). StopsWriting sink start new text) (sym (text_of_more answers (told_at_end last))) (StopsWriting-after sink start old new (text_of answers) (with_line_feed (told_at_end last)) first then)
+      subst (λ (text : List ℕ). StopsWriting sink start new text) (sym (text_of_more answers (told_at_end form last))) (StopsWriting-after sink start old new (text_of answers) (with_line_feed (told_at_end form last)) first then)
 
 -- what a new teller told
-pub told_from_none : (first : Games) (is_numbered : Bool) (given : Rules) (lines answers : List (List ℕ)) (report : DeskReport) (last : GameDesk) → first.given ≡ given → first.is_numbered ≡ is_numbered → first.desk ≡ NoGame
-    → AnswersLines first.is_numbered first.given first.desk lines answers report last → AnswersLines is_numbered given NoGame lines answers report last
-told_from_none first is_numbered given lines answers report last given_is numbered_is none answered =
-    subst (λ (d : GameDesk). AnswersLines is_numbered given d lines answers report last) none
-    (subst (λ (rules : Rules). AnswersLines is_numbered rules first.desk lines answers report last) given_is
-    (subst (λ (b : Bool). AnswersLines b first.given first.desk lines answers report last) numbered_is answered))
+pub told_from_none : (first : Games) (is_numbered : Bool) (form : GamesForm) (given : Rules) (lines answers : List (List ℕ)) (report : DeskReport) (last : GameDesk) → first.given ≡ given → first.is_numbered ≡ is_numbered → first.form ≡ form → first.desk ≡ NoGame
+    → AnswersLines first.is_numbered first.form first.given first.desk lines answers report last → AnswersLines is_numbered form given NoGame lines answers report last
+told_from_none first is_numbered form given lines answers report last given_is numbered_is form_is none answered =
+    subst (λ (d : GameDesk). AnswersLines is_numbered form given d lines answers report last) none
+    (subst (λ (rules : Rules). AnswersLines is_numbered form rules first.desk lines answers report last) given_is
+    (subst (λ (how : GamesForm). AnswersLines is_numbered how first.given first.desk lines answers report last) form_is
+    (subst (λ (b : Bool). AnswersLines b first.form first.given first.desk lines answers report last) numbered_is answered)))
 
-module _ {R W : Type 0} (source : OfSource R) (sink : OfSink W) (is_numbered : Bool) (given : Rules) (reader read : R) (writer then written : W) (text : List ℕ) (answers : List (List ℕ)) (report : DeskReport) (last : GameDesk) where
-  pub tells_games : GivesAll source reader read text → AnswersLines is_numbered given NoGame (lines text) answers report last → WritesAll sink writer then (text_of answers)
-      → WritesAll sink then written (with_line_feed (told_at_end last)) → TellsGames source sink is_numbered given reader read writer written report last
+module _ {R W : Type 0} (source : OfSource R) (sink : OfSink W) (is_numbered : Bool) (form : GamesForm) (given : Rules) (reader read : R) (writer then written : W) (text : List ℕ) (answers : List (List ℕ)) (report : DeskReport) (last : GameDesk) where
+  pub tells_games : GivesAll source reader read text → AnswersLines is_numbered form given NoGame (lines text) answers report last → WritesAll sink writer then (text_of answers)
+      → WritesAll sink then written (with_line_feed (told_at_end form last)) → TellsGames source sink is_numbered form given reader read writer written report last
   tells_games all answered first behind = record {
     text = text;
     answers = answers;
     gives = all;
     answered = answered;
-    writes = written_with_end sink writer then written answers last first behind;
+    writes = written_with_end sink writer then written form answers last first behind;
   }
 
-  pub tells_to_end : GivesAll source reader read text → AnswersLines is_numbered given NoGame (lines text) answers report last → WritesAll sink writer then (text_of answers)
-      → StopsWriting sink then written (with_line_feed (told_at_end last)) → TellsFront source sink is_numbered given reader read writer written
+  pub tells_to_end : GivesAll source reader read text → AnswersLines is_numbered form given NoGame (lines text) answers report last → WritesAll sink writer then (text_of answers)
+      → StopsWriting sink then written (with_line_feed (told_at_end form last)) → TellsFront source sink is_numbered form given reader read writer written
   tells_to_end all answered first behind = record {
     text = text;
     whole = lines text;
@@ -61,5 +63,5 @@ module _ {R W : Type 0} (source : OfSource R) (sink : OfSink W) (is_numbered : B
     are_whole = inr (all.ended, refl);
     parts = sym (append-nil (lines text));
     answered = answered;
-    stops = inr (all, refl, stops_at_end sink writer then written answers last first behind);
+    stops = inr (all, refl, stops_at_end sink writer then written form answers last first behind);
   }

@@ -1,13 +1,17 @@
 -- A text of games so far: the game at hand, and how it ends where no line of it follows.
-use Rattle.std.specs.Prelude.{ℕ, List, Bool, true, false, not, ◌&&◌, Option, None, Some, if◌then◌else◌}
+use Rattle.std.specs.Prelude.{ℕ, List, ◌++◌, Bool, true, false, not, ◌&&◌, Option, None, Some, if◌then◌else◌}
+use Rattle.riichi_table.specs.declared.player.ByPlayer.{ByPlayer}
 use Rattle.riichi_game.specs.Games.{first_progress}
 use Rattle.riichi_places.specs.Finals.{finals_of}
+use Rattle.riichi_places.specs.declared.finals.FinalPoints.{FinalPoints}
 use Rattle.riichi_game_text.specs.Answers.{stands_text}
 use Rattle.riichi_game_text.specs.FinalTexts.{over_text}
 use Rattle.riichi_game_text.specs.GameLines.{GameSaid}
+use Rattle.desk_games.specs.Below.{below_end}
 use Rattle.desk_games.specs.Played.{GameSoFar, hold}
 use Rattle.desk_games.specs.declared.desk.GameDesk.{GameDesk}
 use Rattle.desk_games.specs.declared.desk.GameDesk.TheVariants as desk
+use Rattle.desk_games.specs.declared.form.GamesForm.{GamesForm}
 
 -- ---- where a game begins
 
@@ -42,16 +46,28 @@ open_game (desk.Game game) = if game.is_held then None else Some game
 
 -- ---- where no line of it follows
 
--- the places and final points of a game that is over; of any other the state, and of one with a refused line the last good state
+-- a game that is over and has no refused line has ended
+abbrev pub has_ended : GameSoFar → Bool
+has_ended game = game.progress.is_over && not game.is_held
+
+abbrev pub finals : GameSoFar → ByPlayer FinalPoints
+finals game = finals_of game.rules game.progress.state game.progress.penalties
+
+-- the places and final points of a game that has ended; of any other the state, and of one with a refused line the last good state
 unfoldable pub end_text : GameSoFar → List ℕ
 end_text game =
-    let progress = game.progress in
-    if progress.is_over && not game.is_held
-    then over_text game.names progress.state.sticks (finals_of game.rules progress.state progress.penalties)
-    else stands_text progress.state
+    if has_ended game then over_text game.names game.progress.state.sticks (finals game)
+    else stands_text game.progress.state
+
+abbrev pub below_end_of : GamesForm → GameSoFar → List ℕ
+below_end_of form game = below_end form (has_ended game) game.names game.rules (finals game)
+
+-- the same, and below it how the final points are made, where that is told
+abbrev pub end_in : GamesForm → GameSoFar → List ℕ
+end_in form game = end_text game ++ below_end_of form game
 
 -- what is told behind the last line of the game at hand: nothing where there is none, or none with a state
-abbrev pub told_at_end : GameDesk → Option (List ℕ)
-told_at_end desk.NoGame = None
-told_at_end desk.Refused = None
-told_at_end (desk.Game game) = Some (end_text game)
+abbrev pub told_at_end : GamesForm → GameDesk → Option (List ℕ)
+told_at_end form desk.NoGame = None
+told_at_end form desk.Refused = None
+told_at_end form (desk.Game game) = Some (end_in form game)

@@ -15,13 +15,14 @@ use Rattle.desk_games.specs.Replies.{LineOfGame, Odd, Blank, Begins, Undo, Entry
 use Rattle.desk_games.specs.Texts.{AnswersLines}
 use Rattle.desk_games.specs.declared.desk.GameDesk.{GameDesk}
 use Rattle.desk_games.specs.declared.desk.GameDesk.TheVariants as desk
+use Rattle.desk_games.specs.declared.form.GamesForm.{GamesForm}
 
 -- ---- one answer
 
 -- lines behind a text of games have one list of answers, are counted in one way, and leave one text of games
 abbrev pub AnswersAreOne : Type 0
-AnswersAreOne = (is_numbered : Bool) (given : Rules) (first : GameDesk) (lines one other : List (List ℕ)) (count other_count : DeskReport) (last other_last : GameDesk)
-    → AnswersLines is_numbered given first lines one count last → AnswersLines is_numbered given first lines other other_count other_last
+AnswersAreOne = (is_numbered : Bool) (form : GamesForm) (given : Rules) (first : GameDesk) (lines one other : List (List ℕ)) (count other_count : DeskReport) (last other_last : GameDesk)
+    → AnswersLines is_numbered form given first lines one count last → AnswersLines is_numbered form given first lines other other_count other_last
     → (one ≡ other) × (count ≡ other_count) × (last ≡ other_last)
 
 -- ---- how far a game has come
@@ -58,8 +59,8 @@ refuses reply = is_refused reply.kind
 -- by lines of which none begins another game or takes a line back a game comes as far as the outcomes of the accepted ones bring it, one
 -- after another
 abbrev pub GoesOnByOutcomes : Type 0
-GoesOnByOutcomes = (given : Rules) (game : GameSoFar) (lines : List (List ℕ)) (replies : List Reply) (last : GameDesk) → BeginNone lines → UndoNone lines
-    → AreReplies given (desk.Game game) lines replies last
+GoesOnByOutcomes = (form : GamesForm) (given : Rules) (game : GameSoFar) (lines : List (List ℕ)) (replies : List Reply) (last : GameDesk) → BeginNone lines → UndoNone lines
+    → AreReplies form given (desk.Game game) lines replies last
     → (former : Option Progress)
     × (last ≡ desk.Game (record {
       names = game.names;
@@ -71,15 +72,15 @@ GoesOnByOutcomes = (given : Rules) (game : GameSoFar) (lines : List (List ℕ)) 
 
 -- behind a refused line no line of the game is accepted, where none is taken back
 abbrev pub HeldTakesNone : Type 0
-HeldTakesNone = (given : Rules) (game : GameSoFar) (lines : List (List ℕ)) (replies : List Reply) (last : GameDesk) → BeginNone lines → UndoNone lines
-    → game.is_held ≡ true → AreReplies given (desk.Game game) lines replies last → outcomes_in replies ≡ []
+HeldTakesNone = (form : GamesForm) (given : Rules) (game : GameSoFar) (lines : List (List ℕ)) (replies : List Reply) (last : GameDesk) → BeginNone lines → UndoNone lines
+    → game.is_held ≡ true → AreReplies form given (desk.Game game) lines replies last → outcomes_in replies ≡ []
 
 -- ---- a line that is taken back
 
 -- `undo` behind an accepted line leaves the game as far as it had come before
 abbrev pub UndoTakesTheLastBack : Type 0
-UndoTakesTheLastBack = (game : GameSoFar) (outcome : Outcome) → game.is_held ≡ false
-    → (undo_reply (accept game outcome).desk).desk ≡ desk.Game (record game { former = None })
+UndoTakesTheLastBack = (form : GamesForm) (game : GameSoFar) (outcome : Outcome) → game.is_held ≡ false
+    → (undo_reply (accept form game outcome).desk).desk ≡ desk.Game (record game { former = None })
 
 -- `undo` behind a refused line, and others that were refused for it, leaves the game as it was before the first of them
 abbrev pub UndoReleases : Type 0
@@ -89,7 +90,7 @@ UndoReleases = (game : GameSoFar) → game.is_held ≡ false → (undo_reply (he
 
 -- The game began with one of the lines, and none behind that begins another; it has the names and the rules that the line says, and has
 -- come as far as the outcomes of the accepted lines behind it bring it.
-pub record IsAtHand (given : Rules) (lines : List (List ℕ)) (game : GameSoFar) : Type 0 where
+pub record IsAtHand (form : GamesForm) (given : Rules) (lines : List (List ℕ)) (game : GameSoFar) : Type 0 where
   pub front : List (List ℕ)
   pub line : List ℕ
   pub behind : List (List ℕ)
@@ -102,12 +103,12 @@ pub record IsAtHand (given : Rules) (lines : List (List ℕ)) (game : GameSoFar)
   pub said : GameSaid
   pub says : game_of hand words ≡ Some said
   pub replies : List Reply
-  pub are : AreReplies given (desk.Game (new_game said)) behind replies (desk.Game game)
+  pub are : AreReplies form given (desk.Game (new_game said)) behind replies (desk.Game game)
   pub names : game.names ≡ said.names
   pub rules : game.rules ≡ said.rules
   pub progress : game.progress ≡ after_all (first_progress said.rules) said.rules (outcomes_in replies)
 
 -- the game that is at hand behind the lines of a text, of which none takes another one back
 abbrev pub GameComesFromItsLines : Type 0
-GameComesFromItsLines = (is_numbered : Bool) (given : Rules) (lines answers : List (List ℕ)) (report : DeskReport) (game : GameSoFar)
-    → UndoNone lines → AnswersLines is_numbered given desk.NoGame lines answers report (desk.Game game) → IsAtHand given lines game
+GameComesFromItsLines = (is_numbered : Bool) (form : GamesForm) (given : Rules) (lines answers : List (List ℕ)) (report : DeskReport) (game : GameSoFar)
+    → UndoNone lines → AnswersLines is_numbered form given desk.NoGame lines answers report (desk.Game game) → IsAtHand form given lines game

@@ -1,6 +1,9 @@
 pub mod Played
+pub mod Pending
+pub mod Below
 pub mod Desks
 pub mod Replies
 pub mod Texts
+pub mod Tellers
 pub mod Streams
 pub mod Laws

@@ -1,9 +1,8 @@
 -- What each line of a text of games comes to.
-use Rattle.std.specs.Prelude.{◌≡◌, ℕ, List, [], ◌∷◌, codes, Bool, false, Option, None, Some, Result, Ok, Err, if◌then◌else◌}
+use Rattle.std.specs.Prelude.{◌≡◌, ℕ, List, [], ◌∷◌, ◌++◌, codes, Option, None, Some, Result, Ok, Err, if◌then◌else◌, Bool, false}
 use Rattle.std.specs.Str.{bytes_eq}
 use Rattle.riichi_hand.specs.Rules.{Rules}
 use Rattle.riichi_table.specs.Players.{of_player}
-use Rattle.riichi_table.specs.declared.player.ByPlayer.{ByPlayer}
 use Rattle.riichi_table.specs.declared.outcome.Outcome.{Outcome}
 use Rattle.riichi_table.specs.declared.outcome.Outcome.TheVariants.{Penalty, End}
 use Rattle.riichi_game.specs.Games.{after_one}
@@ -18,10 +17,12 @@ use Rattle.riichi_game_text.specs.declared.fault.GameFault.{GameFault}
 use Rattle.riichi_game_text.specs.declared.fault.GameFault.TheVariants.{G1, G2, G3, G4, G14}
 use Rattle.desk_lines.specs.declared.line_kind.LineKind.{LineKind}
 use Rattle.desk_lines.specs.declared.line_kind.LineKind.TheVariants.{NoRecord, Answered, Refused}
+use Rattle.desk_games.specs.Below.{GameStep, below_deal, said_end}
 use Rattle.desk_games.specs.Played.{GameSoFar, release, come_back}
 use Rattle.desk_games.specs.Desks.{begun_desk, held_desk, is_held_desk, told_at_end}
 use Rattle.desk_games.specs.declared.desk.GameDesk.{GameDesk}
 use Rattle.desk_games.specs.declared.desk.GameDesk.TheVariants as desk
+use Rattle.desk_games.specs.declared.form.GamesForm.{GamesForm}
 
 -- ---- what a line is, before any game is looked at
 
@@ -72,47 +73,59 @@ refusal now fault = record {
 }
 
 -- a line `game` ends the game before it
-abbrev pub begin_reply : GameDesk → Option GameSaid → Reply
-begin_reply now None = record {
-  ended = told_at_end now;
+abbrev pub begin_reply : GamesForm → GameDesk → Option GameSaid → Reply
+begin_reply form now None = record {
+  ended = told_at_end form now;
   answer = Some (refused_text G3);
   outcome = None;
   kind = Refused;
   desk = begun_desk None;
 }
-begin_reply now (Some said) = record {
-  ended = told_at_end now;
+begin_reply form now (Some said) = record {
+  ended = told_at_end form now;
   answer = Some (begun_text said.names said.rules.start);
   outcome = None;
   kind = Answered;
   desk = begun_desk (Some said);
 }
 
--- the answer to an outcome by how far the game had come before it and has come after it: `end` has none of its own
-abbrev pub outcome_answer : ByPlayer (List ℕ) → Progress → Progress → Outcome → Option (List ℕ)
-outcome_answer names before after (Penalty player points) = Some (penalty_text (of_player names player) points)
-outcome_answer names before after End = None
-outcome_answer names before after other = Some (deal_text before.state after.state.points)
+abbrev pub answer_by : GamesForm → GameStep → Outcome → Option (List ℕ)
+answer_by form step (Penalty player points) = Some (penalty_text (of_player step.names player) points)
+answer_by form step End = said_end form step
+answer_by form step other = Some (deal_text step.before.state step.after.state.points ++ below_deal form step)
+
+-- the answer to an outcome by how far the game had come before it and has come after it, with what stands below it
+abbrev pub outcome_answer : GamesForm → GameStep → Option (List ℕ)
+outcome_answer form step = answer_by form step step.outcome
+
+abbrev pub step_of : GameSoFar → Outcome → Progress → GameStep
+step_of game outcome after = record {
+  names = game.names;
+  rules = game.rules;
+  before = game.progress;
+  after = after;
+  outcome = outcome;
+}
 
 -- an outcome brings the game on
-abbrev pub accept : GameSoFar → Outcome → Reply
-accept game outcome =
+abbrev pub accept : GamesForm → GameSoFar → Outcome → Reply
+accept form game outcome =
     let after = after_one game.progress game.rules outcome in record {
       ended = None;
-      answer = outcome_answer game.names game.progress after outcome;
+      answer = outcome_answer form (step_of game outcome after);
       outcome = Some outcome;
       kind = Answered;
       desk = desk.Game (record game { progress = after; former = Some game.progress });
     }
 
-abbrev pub entry_reply : GameSoFar → Result Outcome GameFault → Reply
-entry_reply game (Err fault) = refusal (desk.Game game) fault
-entry_reply game (Ok outcome) = accept game outcome
+abbrev pub entry_reply : GamesForm → GameSoFar → Result Outcome GameFault → Reply
+entry_reply form game (Err fault) = refusal (desk.Game game) fault
+entry_reply form game (Ok outcome) = accept form game outcome
 
-abbrev pub game_reply : GameSoFar → List ℕ → Reply
-game_reply game line =
+abbrev pub game_reply : GamesForm → GameSoFar → List ℕ → Reply
+game_reply form game line =
     if game.is_held then refusal (desk.Game game) G14
-    else entry_reply game (entry_of game.names game.progress game.rules line)
+    else entry_reply form game (entry_of game.names game.progress game.rules line)
 
 -- ---- where a line is taken back
 
@@ -143,27 +156,27 @@ undo_reply (desk.Game game) = game_undo game
 -- ---- together
 
 -- a line that isn't odd, and whose first word is neither `game` nor a lone `undo`
-abbrev pub other_reply : GameDesk → List ℕ → Reply
-other_reply desk.NoGame line = refusal desk.NoGame G2
-other_reply desk.Refused line = refusal desk.Refused G2
-other_reply (desk.Game game) line = game_reply game line
+abbrev pub other_reply : GamesForm → GameDesk → List ℕ → Reply
+other_reply form desk.NoGame line = refusal desk.NoGame G2
+other_reply form desk.Refused line = refusal desk.Refused G2
+other_reply form (desk.Game game) line = game_reply form game line
 
 -- By what a line is: of a line `game` the words say the game, and the rules for hands, where these aren't the given ones.
-abbrev pub IsReplyTo : Rules → GameDesk → LineOfGame → List ℕ → Reply → Type 0
-IsReplyTo given now Odd line reply = reply ≡ refusal now G1
-IsReplyTo given now Blank line reply = reply ≡ blank_reply now
-IsReplyTo given now (Begins words) line reply =
-    (hand : Option Rules) × IsHandRules given (hand_word words) hand × (reply ≡ begin_reply now (game_of hand words))
-IsReplyTo given now Undo line reply = reply ≡ undo_reply now
-IsReplyTo given now Entry line reply = reply ≡ other_reply now line
+abbrev pub IsReplyTo : GamesForm → Rules → GameDesk → LineOfGame → List ℕ → Reply → Type 0
+IsReplyTo form given now Odd line reply = reply ≡ refusal now G1
+IsReplyTo form given now Blank line reply = reply ≡ blank_reply now
+IsReplyTo form given now (Begins words) line reply =
+    (hand : Option Rules) × IsHandRules given (hand_word words) hand × (reply ≡ begin_reply form now (game_of hand words))
+IsReplyTo form given now Undo line reply = reply ≡ undo_reply now
+IsReplyTo form given now Entry line reply = reply ≡ other_reply form now line
 
 -- what a line comes to behind a text of games, under the given rules for hands
-abbrev pub IsReply : Rules → GameDesk → List ℕ → Reply → Type 0
-IsReply given now line reply = IsReplyTo given now (seen_in line) line reply
+abbrev pub IsReply : GamesForm → Rules → GameDesk → List ℕ → Reply → Type 0
+IsReply form given now line reply = IsReplyTo form given now (seen_in line) line reply
 
 -- what lines come to, one after another, and the text of games behind the last
-abbrev pub AreReplies : Rules → GameDesk → List (List ℕ) → List Reply → GameDesk → Type 0
-AreReplies given now [] replies last = (replies ≡ []) × (last ≡ now)
-AreReplies given now (line ∷ lines) replies last =
-    (reply : Reply) × (others : List Reply) × IsReply given now line reply
-    × (replies ≡ reply ∷ others) × AreReplies given reply.desk lines others last
+abbrev pub AreReplies : GamesForm → Rules → GameDesk → List (List ℕ) → List Reply → GameDesk → Type 0
+AreReplies form given now [] replies last = (replies ≡ []) × (last ≡ now)
+AreReplies form given now (line ∷ lines) replies last =
+    (reply : Reply) × (others : List Reply) × IsReply form given now line reply
+    × (replies ≡ reply ∷ others) × AreReplies form given reply.desk lines others last

@@ -11,32 +11,33 @@ use Rattle.desk_games.specs.Desks.{told_at_end}
 use Rattle.desk_games.specs.Texts.{AnswersLines}
 use Rattle.desk_games.specs.declared.desk.GameDesk.{GameDesk}
 use Rattle.desk_games.specs.declared.desk.GameDesk.TheVariants.{NoGame}
+use Rattle.desk_games.specs.declared.form.GamesForm.{GamesForm}
 
 -- what is written of the answers to all lines of a text, and of the end of its last game
-abbrev pub games_answers : List (List ℕ) → GameDesk → List ℕ
-games_answers answers last = text_of (answers ++ answers_in (told_at_end last))
+abbrev pub games_answers : GamesForm → List (List ℕ) → GameDesk → List ℕ
+games_answers form answers last = text_of (answers ++ answers_in (told_at_end form last))
 
 -- The reader gave a text to its end, and the answers to its lines were written, and the end of its last game.
-pub record TellsGames {R W : Type 0} (source : OfSource R) (sink : OfSink W) (is_numbered : Bool) (given : Rules) (reader read : R) (writer written : W) (report : DeskReport) (last : GameDesk) : Type 0 where
+pub record TellsGames {R W : Type 0} (source : OfSource R) (sink : OfSink W) (is_numbered : Bool) (form : GamesForm) (given : Rules) (reader read : R) (writer written : W) (report : DeskReport) (last : GameDesk) : Type 0 where
   pub text : List ℕ
   pub answers : List (List ℕ)
   pub gives : GivesAll source reader read text
-  pub answered : AnswersLines is_numbered given NoGame (lines text) answers report last
-  pub writes : WritesAll sink writer written (games_answers answers last)
+  pub answered : AnswersLines is_numbered form given NoGame (lines text) answers report last
+  pub writes : WritesAll sink writer written (games_answers form answers last)
 
 -- The reader gave a text, and the answers to its lines that had ended were written.
-pub record TellsEnded {R W : Type 0} (source : OfSource R) (sink : OfSink W) (is_numbered : Bool) (given : Rules) (reader read : R) (writer written : W) : Type 0 where
+pub record TellsEnded {R W : Type 0} (source : OfSource R) (sink : OfSink W) (is_numbered : Bool) (form : GamesForm) (given : Rules) (reader read : R) (writer written : W) : Type 0 where
   pub text : List ℕ
   pub answers : List (List ℕ)
   pub report : DeskReport
   pub last : GameDesk
   pub gives : Gives source reader read text
-  pub answered : AnswersLines is_numbered given NoGame (ended_lines text) answers report last
+  pub answered : AnswersLines is_numbered form given NoGame (ended_lines text) answers report last
   pub writes : WritesAll sink writer written (text_of answers)
 
 -- Of the whole lines that the reader gave the first were answered, and the writer failed at their answers; or they were all lines of its
 -- text, and it failed at these answers and the end of the last game.
-pub record TellsFront {R W : Type 0} (source : OfSource R) (sink : OfSink W) (is_numbered : Bool) (given : Rules) (reader read : R) (writer written : W) : Type 0 where
+pub record TellsFront {R W : Type 0} (source : OfSource R) (sink : OfSink W) (is_numbered : Bool) (form : GamesForm) (given : Rules) (reader read : R) (writer written : W) : Type 0 where
   pub text : List ℕ
   pub whole : List (List ℕ)
   pub first : List (List ℕ)
@@ -47,6 +48,6 @@ pub record TellsFront {R W : Type 0} (source : OfSource R) (sink : OfSink W) (is
   pub gives : Gives source reader read text
   pub are_whole : AreWhole (source.is_ended read) text whole
   pub parts : whole ≡ first ++ others
-  pub answered : AnswersLines is_numbered given NoGame first answers report last
+  pub answered : AnswersLines is_numbered form given NoGame first answers report last
   pub stops : StopsWriting sink writer written (text_of answers)
-      ⊎ (GivesAll source reader read text × (first ≡ lines text) × StopsWriting sink writer written (games_answers answers last))
+      ⊎ (GivesAll source reader read text × (first ≡ lines text) × StopsWriting sink writer written (games_answers form answers last))

@@ -8,6 +8,7 @@ use Rattle.desk_lines.specs.Numbered.{words_front}
 use Rattle.desk_lines.specs.Telling.{report_of, with_line_feed}
 use Rattle.desk_games.specs.Replies.{Reply, AreReplies}
 use Rattle.desk_games.specs.declared.desk.GameDesk.{GameDesk}
+use Rattle.desk_games.specs.declared.form.GamesForm.{GamesForm}
 
 -- ---- the text of one answer
 
@@ -50,10 +51,10 @@ answers_from is_numbered number (reply ∷ replies) =
 abbrev pub kind_in : Reply → LineKind
 kind_in reply = reply.kind
 
--- These lines, behind a text of games, have these answers, with the numbers of their lines or without, and are counted so; behind them
+-- These lines, behind a text of games, have these answers in this form, with the numbers of their lines or without, and are counted so; behind them
 -- the text of games is the last one. The first line has the number 1.
-pub record AnswersLines (is_numbered : Bool) (given : Rules) (first : GameDesk) (lines answers : List (List ℕ)) (report : DeskReport) (last : GameDesk) : Type 0 where
+pub record AnswersLines (is_numbered : Bool) (form : GamesForm) (given : Rules) (first : GameDesk) (lines answers : List (List ℕ)) (report : DeskReport) (last : GameDesk) : Type 0 where
   pub replies : List Reply
-  pub are : AreReplies given first lines replies last
+  pub are : AreReplies form given first lines replies last
   pub answers_are : answers ≡ answers_from is_numbered 1 replies
   pub report_is : report ≡ report_of (map kind_in replies)

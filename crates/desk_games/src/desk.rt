@@ -5,10 +5,11 @@ ghost use Rattle.desk_lines.specs.Outbox.{HasRoomForLine, HasRoomForText};
 ghost use Rattle.desk_lines.specs.Telling.{with_line_feed};
 ghost use Rattle.desk_games.specs.Desks as spec;
 ghost use Rattle.desk_games.specs.Replies.{refusal, undo_reply, other_reply};
-ghost use Rattle.desk_games.specs.Texts.{Puts};
+ghost use Rattle.desk_games.specs.Texts.{PutsReply};
 
+use crate::form::GamesForm;
 use crate::game_at_hand::GameAtHand;
-use crate::puts::put_refused;
+use crate::puts::{Manner, put_refused};
 use desk_lines::{LineKind, Outbox};
 use riichi_game_text::GameFault;
 
@@ -55,16 +56,14 @@ impl GameDesk {
     }
 
     /// Puts what is told behind the last line of the game at hand.
-    pub(crate) fn put_end(&self, outbox: &mut Outbox)
+    pub(crate) fn put_end(&self, form: GamesForm, outbox: &mut Outbox)
         requires room { HasRoomForLine outbox.old }
         ensures put { outbox.new.bytes.items
-            ≡ outbox.old.bytes.items ++ with_line_feed (spec.told_at_end self.now) }
+            ≡ outbox.old.bytes.items ++ with_line_feed (spec.told_at_end form self.now) }
         ensures room { HasRoomForText outbox.new }
     {
         if let GameDesk::Game(game) = self {
-            outbox.text.clear();
-            game.push_end(&mut outbox.text);
-            outbox.put_text();
+            game.put_end(form, outbox);
         }
     }
 
@@ -76,7 +75,7 @@ impl GameDesk {
         outbox: &mut Outbox,
     ) -> LineKind
         requires { HasRoomForText outbox.old }
-        ensures { Puts front (refusal self.old fault) result
+        ensures { PutsReply front (refusal self.old fault) result
             outbox.old.bytes.items outbox.new.bytes.items self.new }
     {
         let told = if self.is_held() {
@@ -92,7 +91,7 @@ impl GameDesk {
     /// Takes the line `undo`, and puts its answer.
     pub(crate) fn undo(&mut self, front: Option<u64>, outbox: &mut Outbox) -> LineKind
         requires { HasRoomForText outbox.old }
-        ensures { Puts front (undo_reply self.old) result
+        ensures { PutsReply front (undo_reply self.old) result
             outbox.old.bytes.items outbox.new.bytes.items self.new }
     {
         match self {
@@ -102,14 +101,14 @@ impl GameDesk {
     }
 
     /// Takes a line that isn't odd, and whose first word is neither `game` nor a lone `undo`, and puts its answer.
-    pub(crate) fn take(&mut self, front: Option<u64>, line: &[u8], outbox: &mut Outbox) -> LineKind
-        requires { HasRoomForText outbox.old }
-        ensures { Puts front (other_reply self.old line.now) result
+    pub(crate) fn take(&mut self, manner: Manner, line: &[u8], outbox: &mut Outbox) -> LineKind
+        requires { HasRoomForLine outbox.old }
+        ensures { PutsReply manner.front (other_reply manner.form self.old line.now) result
             outbox.old.bytes.items outbox.new.bytes.items self.new }
     {
         match self {
-            GameDesk::Game(game) => game.take(front, line, outbox),
-            _ => self.refuse(front, GameFault::G2, outbox),
+            GameDesk::Game(game) => game.take(manner, line, outbox),
+            _ => self.refuse(manner.front, GameFault::G2, outbox),
         }
     }
 }

@@ -1,29 +1,44 @@
 //! A game of a text so far.
-ghost use Rattle.std.specs.Prelude.{◌≡◌, ◌+◌, ◌≤◌, ◌++◌, Ok};
+ghost use Rattle.std.specs.Prelude.{◌≡◌, ◌+◌, ◌≤◌, ◌++◌, length, Some, Ok};
 ghost use Rattle.arrayvec.specs.ArrayString.{array_string_len};
 ghost use Rattle.riichi_game.specs.Faults.{next_of};
 ghost use Rattle.riichi_game_text.specs.GameLines.{said_by};
 ghost use Rattle.riichi_game_text.specs.Names.{names_in};
-ghost use Rattle.desk_lines.specs.Outbox.{HasRoomForText};
+ghost use Rattle.desk_lines.specs.Outbox.{HasRoomForLine, HasRoomForText};
+ghost use Rattle.desk_lines.specs.Telling.{with_line_feed};
 ghost use Rattle.desk_games.specs.Played.{hold};
 ghost use Rattle.desk_games.specs.declared.desk.GameDesk.TheVariants.{Game};
-ghost use Rattle.desk_games.specs.Desks.{new_game, end_text};
+ghost use Rattle.desk_games.specs.Desks as spec;
+ghost use Rattle.desk_games.specs.Pending.{pending, HasRoomBelow};
 ghost use Rattle.desk_games.specs.Replies.{accept, game_reply, game_undo};
-ghost use Rattle.desk_games.specs.Texts.{Puts};
+ghost use Rattle.desk_games.specs.Texts.{PutsReply};
 
-use crate::puts::{put_outcome, put_refused, put_stands};
+use crate::below::{Step, next_line};
+use crate::form::GamesForm;
+use crate::puts::{Manner, put_outcome, put_refused, put_stands};
+use arrayvec::ArrayString;
 use desk_lines::{LineKind, Outbox};
 use riichi_game::Progress;
+use riichi_game_reasons::{MOST_FINAL_REASONS, push_final_reasons};
 use riichi_game_text::{
     AcceptedLine, GameFault, GameLine, MOST_OVER, Names, push_over, push_stands, read_entry,
 };
-use riichi_places::final_points;
-use riichi_table::TableRules;
+use riichi_places::{FinalPoints, final_points};
+use riichi_table::{ByPlayer, TableRules};
 use riichi_text::{ANSWER_ROOM, AnswerText};
 use std::marker::Model;
 
 /// The bytes of the longest end of a game.
 pub const MOST_END: usize = MOST_OVER;
+
+/// The bytes of all that stands below the end of a game.
+const MOST_BELOW_END: usize = "\n".len() + MOST_FINAL_REASONS;
+
+/// The bytes of the longest end of a game with all that stands below it, and of the end of its last line.
+const END_ROOM: usize = MOST_END + MOST_BELOW_END + "\n".len();
+
+/// What is told behind the last line of a game.
+pub(crate) type EndText = ArrayString<END_ROOM>;
 
 /// A game of a text so far: the players, the rules, how far the game has come by its accepted lines, and whether a line of it was
 /// refused.
@@ -49,7 +64,7 @@ impl Model for GameAtHand {
 impl GameAtHand {
     /// The game that a line begins, before its first deal.
     pub fn new(line: &GameLine) -> GameAtHand
-        ensures { result ≡ new_game (said_by line.now) }
+        ensures { result ≡ spec.new_game (said_by line.now) }
     {
         GameAtHand {
             names: line.names,
@@ -99,22 +114,88 @@ impl GameAtHand {
     #[tactic(auto, unfolding(crate::specs::Desks::end_text))]
     pub fn push_end(&self, text: &mut AnswerText)
         requires { array_string_len text.old + MOST_END ≤ ANSWER_ROOM }
-        ensures bytes { text.new.bytes ≡ text.old.bytes ++ end_text self.now }
+        ensures bytes { text.new.bytes ≡ text.old.bytes ++ spec.end_text self.now }
         ensures len { array_string_len text.new ≤ array_string_len text.old + MOST_END }
     {
         let state = &self.progress.state;
-        if self.progress.is_over && !self.is_held {
-            let finals = final_points(&self.rules, state, &self.progress.penalties);
-            push_over(text, &self.names, state.sticks, &finals);
+        if self.has_ended() {
+            push_over(text, &self.names, state.sticks, &self.finals());
         } else {
             push_stands(text, state);
+        }
+    }
+
+    /// Whether the game is over, and no line of it was refused.
+    fn has_ended(&self) -> bool
+        ensures { result ≡ spec.has_ended self.now }
+    {
+        self.progress.is_over && !self.is_held
+    }
+
+    /// What each player has where the game ends in its state.
+    fn finals(&self) -> ByPlayer<FinalPoints>
+        ensures { result ≡ spec.finals self.now }
+    {
+        final_points(&self.rules, &self.progress.state, &self.progress.penalties)
+    }
+
+    /// Puts what is told behind the last line of the game.
+    pub(crate) fn put_end(&self, form: GamesForm, outbox: &mut Outbox)
+        requires room { HasRoomForLine outbox.old }
+        ensures put { outbox.new.bytes.items
+            ≡ outbox.old.bytes.items ++ with_line_feed (Some (spec.end_in form self.now)) }
+        ensures room { HasRoomForText outbox.new }
+    {
+        outbox.text.clear();
+        self.push_end(&mut outbox.text);
+        self.put_below_end(form, outbox);
+        outbox.put_text();
+    }
+
+    /// Puts how the final points are made, where that is told. The last line stays in the room of texts, as that before it does.
+    fn put_below_end(&self, form: GamesForm, outbox: &mut Outbox)
+        requires { HasRoomBelow MOST_BELOW_END outbox.old }
+        ensures pending { pending outbox.new
+            ≡ pending outbox.old ++ spec.below_end_of form self.now }
+        ensures room { length (pending outbox.new) ≤ length (pending outbox.old) + MOST_BELOW_END }
+    {
+        if form.is_explained() && self.has_ended() {
+            next_line(outbox);
+            push_final_reasons(&mut outbox.text, &self.names, &self.rules, &self.finals());
+        }
+    }
+
+    /// What is told behind the last line of the game, with the end of its last line.
+    pub(crate) fn ended_text(&self, form: GamesForm) -> EndText
+        ensures { result.bytes ≡ with_line_feed (Some (spec.end_in form self.now)) }
+    {
+        let mut text = AnswerText::new();
+        let mut ended = EndText::new();
+        self.push_end(&mut text);
+        ended.push_str(text.as_str());
+        text.clear();
+        self.push_below_end(form, &mut text);
+        ended.push_str(text.as_str());
+        ended.push_str("\n");
+        ended
+    }
+
+    /// Writes how the final points are made, where that is told, behind the end of the line before it.
+    fn push_below_end(&self, form: GamesForm, text: &mut AnswerText)
+        requires { array_string_len text.old + MOST_BELOW_END ≤ ANSWER_ROOM }
+        ensures bytes { text.new.bytes ≡ text.old.bytes ++ spec.below_end_of form self.now }
+        ensures len { array_string_len text.new ≤ array_string_len text.old + MOST_BELOW_END }
+    {
+        if form.is_explained() && self.has_ended() {
+            text.push_str("\n");
+            push_final_reasons(text, &self.names, &self.rules, &self.finals());
         }
     }
 
     /// Takes the refused lines back, or else the last accepted one, and puts the answer.
     pub(crate) fn undo(&mut self, front: Option<u64>, outbox: &mut Outbox) -> LineKind
         requires { HasRoomForText outbox.old }
-        ensures { Puts front (game_undo self.old) result
+        ensures { PutsReply front (game_undo self.old) result
             outbox.old.bytes.items outbox.new.bytes.items (Game self.new) }
     {
         if self.is_held {
@@ -138,20 +219,20 @@ impl GameAtHand {
     }
 
     /// Takes a line of the game that isn't odd, and whose first word is neither `game` nor a lone `undo`, and puts its answer.
-    pub(crate) fn take(&mut self, front: Option<u64>, line: &[u8], outbox: &mut Outbox) -> LineKind
-        requires { HasRoomForText outbox.old }
-        ensures { Puts front (game_reply self.old line.now) result
+    pub(crate) fn take(&mut self, manner: Manner, line: &[u8], outbox: &mut Outbox) -> LineKind
+        requires { HasRoomForLine outbox.old }
+        ensures { PutsReply manner.front (game_reply manner.form self.old line.now) result
             outbox.old.bytes.items outbox.new.bytes.items (Game self.new) }
     {
         if self.is_held {
-            put_refused(front, GameFault::G14, outbox);
+            put_refused(manner.front, GameFault::G14, outbox);
             return LineKind::Refused;
         }
         match read_entry(&self.names, &self.progress, &self.rules, line) {
-            Ok(accepted) => self.accept(front, &accepted, outbox),
+            Ok(accepted) => self.accept(manner, &accepted, outbox),
             Err(fault) => {
                 self.hold();
-                put_refused(front, fault, outbox);
+                put_refused(manner.front, fault, outbox);
                 LineKind::Refused
             }
         }
@@ -160,20 +241,27 @@ impl GameAtHand {
     /// Goes on by what an accepted line says, and puts its answer.
     fn accept(
         &mut self,
-        front: Option<u64>,
+        manner: Manner,
         accepted: &AcceptedLine,
         outbox: &mut Outbox,
     ) -> LineKind
-        requires room { HasRoomForText outbox.old }
+        requires room { HasRoomForLine outbox.old }
         requires after { next_of self.old.progress self.old.rules accepted.now.outcome
             ≡ Ok accepted.now.after }
-        ensures { Puts front (accept self.old accepted.now.outcome) result
+        ensures { PutsReply manner.front (accept manner.form self.old accepted.now.outcome) result
             outbox.old.bytes.items outbox.new.bytes.items (Game self.new) }
     {
         let before = self.progress;
         self.progress = accepted.after;
         self.former = Some(before);
-        put_outcome(front, &self.names, &before, accepted, outbox);
+        let step = Step {
+            names: &self.names,
+            rules: &self.rules,
+            before: &before,
+            after: &accepted.after,
+            outcome: &accepted.outcome,
+        };
+        put_outcome(manner, &step, outbox);
         LineKind::Answered
     }
 }

@@ -5,12 +5,14 @@ ghost use Rattle.desk_lines.specs.Outbox.{HasRoomForLine};
 ghost use Rattle.desk_games.specs.declared.desk.GameDesk.TheVariants.{NoGame};
 ghost use Rattle.desk_games.specs.Replies.{Reply, IsReply, IsReplyTo, Begins};
 ghost use Rattle.desk_games.specs.Replies as replies;
-ghost use Rattle.desk_games.specs.Texts.{Puts};
+ghost use Rattle.desk_games.specs.Tellers.{TellsAlike};
+ghost use Rattle.desk_games.specs.Texts.{PutsReply};
 ghost use Rattle.desk_games.specs.Texts as spec;
 
 use crate::desk::GameDesk;
+use crate::form::GamesForm;
 use crate::game_at_hand::GameAtHand;
-use crate::puts::{put_begun, put_refused};
+use crate::puts::{Manner, put_begun, put_refused};
 use desk_lines::{LineKind, Outbox, Teller};
 use riichi_game_text::{GameFault, is_odd, next_said, read_game};
 use riichi_hand::Rules;
@@ -24,19 +26,22 @@ pub struct Games {
     given: Rules,
     /// Each answer stands behind the number of its line.
     is_numbered: bool,
+    form: GamesForm,
     desk: GameDesk,
 }
 
 impl Games {
     /// Before the first line.
-    pub fn new(given: Rules, is_numbered: bool) -> Games
+    pub fn new(given: Rules, is_numbered: bool, form: GamesForm) -> Games
         ensures given { result.given ≡ given }
         ensures numbered { result.is_numbered ≡ is_numbered }
+        ensures form { result.form ≡ form }
         ensures desk { result.desk ≡ NoGame }
     {
         Games {
             given,
             is_numbered,
+            form,
             desk: GameDesk::NoGame,
         }
     }
@@ -51,10 +56,10 @@ impl Games {
     /// Takes the next line, and puts its answer.
     fn take(&mut self, front: Option<u64>, line: &[u8], outbox: &mut Outbox) -> LineKind
         requires { HasRoomForLine outbox.old }
-        ensures given { (self.new.given ≡ self.old.given)
-            × (self.new.is_numbered ≡ self.old.is_numbered) }
-        ensures reply { (reply : Reply) × IsReply self.old.given self.old.desk line.now reply
-            × Puts front reply result outbox.old.bytes.items outbox.new.bytes.items self.new.desk }
+        ensures given { TellsAlike self.new self.old }
+        ensures reply { (reply : Reply)
+            × IsReply self.old.form self.old.given self.old.desk line.now reply
+            × PutsReply front reply result outbox.old.bytes.items outbox.new.bytes.items self.new.desk }
     {
         if is_odd(line) {
             return self.desk.refuse(front, GameFault::G1, outbox);
@@ -63,20 +68,26 @@ impl Games {
             None => LineKind::NoRecord,
             Some((first, words)) if first == b"game".as_slice() => self.begin(front, words, outbox),
             Some((first, words)) if says_undo(first, words) => self.desk.undo(front, outbox),
-            Some(_) => self.desk.take(front, line, outbox),
+            Some(_) => self.desk.take(
+                Manner {
+                    front,
+                    form: self.form,
+                },
+                line,
+                outbox,
+            ),
         }
     }
 
     /// Takes a line `game` with these words behind it, and puts its answer behind the end of the game before it.
     fn begin(&mut self, front: Option<u64>, words: &[u8], outbox: &mut Outbox) -> LineKind
         requires { HasRoomForLine outbox.old }
-        ensures given { (self.new.given ≡ self.old.given)
-            × (self.new.is_numbered ≡ self.old.is_numbered) }
+        ensures given { TellsAlike self.new self.old }
         ensures reply { (reply : Reply)
-            × IsReplyTo self.old.given self.old.desk (Begins (said_in words.now)) words.now reply
-            × Puts front reply result outbox.old.bytes.items outbox.new.bytes.items self.new.desk }
+            × IsReplyTo self.old.form self.old.given self.old.desk (Begins (said_in words.now)) words.now reply
+            × PutsReply front reply result outbox.old.bytes.items outbox.new.bytes.items self.new.desk }
     {
-        self.desk.put_end(outbox);
+        self.desk.put_end(self.form, outbox);
         match read_game(self.given, words) {
             None => {
                 self.desk = GameDesk::Refused;
@@ -108,7 +119,7 @@ fn number_if(is_numbered: bool, number: u64) -> Option<u64>
 
 impl Teller for Games {
     ghost use Rattle.std.specs.Prelude.{List, ℕ};
-    ghost use Rattle.desk_games.specs.Texts.{AnswersLines};
+    ghost use Rattle.desk_games.specs.Tellers.{HasTold};
 
     ghost Answer = { List ℕ };
 
@@ -116,8 +127,7 @@ impl Teller for Games {
 
     ghost most = { 4096 };
 
-    ghost tells = { λ first now lines told report. (now.given ≡ first.given) × (now.is_numbered ≡ first.is_numbered)
-        × AnswersLines first.is_numbered first.given first.desk lines told report now.desk };
+    ghost tells = { λ first now lines told report. HasTold first now lines told report };
 
     ghost wants_memory = { λ _ _. ⊥ };
 

@@ -2,7 +2,7 @@
 //!
 //! [`games_text`] answers the lines that a `desk_io::Source` gives, and writes the answers into a `desk_io::Sink`. It returns a
 //! [`GamesReport`]: how many lines were answered and how many refused, and the [`GameDesk`] behind the last line, or a
-//! [`DeskFault`] for which it gave up. [`games_text_with`] can put each answer behind the number of its line, and
+//! [`DeskFault`] for which it gave up. [`games_text_with`] has a [`GamesForm`], can put each answer behind the number of its line, and
 //! [`games_played`] returns the [`GameDesk`] without any answers.
 //!
 //! A [`GameDesk`] is a text of games so far: no game yet, one whose line `game` was refused, or a [`GameAtHand`], with its players,
@@ -19,7 +19,9 @@
 //! ```
 #![tactic(auto)]
 
+mod below;
 mod desk;
+mod form;
 mod game_at_hand;
 mod games;
 pub mod laws;
@@ -31,6 +33,7 @@ mod unwritten;
 
 pub use desk::GameDesk;
 pub use desk_lines::{DeskFault, DeskReport};
+pub use form::GamesForm;
 pub use game_at_hand::GameAtHand;
 pub use games::Games;
 pub use played::games_played;

@@ -5,6 +5,7 @@ ghost use Rattle.desk_lines.specs.declared.report.DeskReport.{DeskReport};
 ghost use Rattle.desk_lines.specs.Lines.{lines};
 ghost use Rattle.desk_lines.specs.Streams.{GivesAll, FailsOrGoesOn, IsReadWithin};
 ghost use Rattle.desk_games.specs.declared.desk.GameDesk.TheVariants.{NoGame};
+ghost use Rattle.desk_games.specs.declared.form.GamesForm.TheVariants.{Answers};
 ghost use Rattle.desk_games.specs.Texts.{AnswersLines};
 
 use crate::desk::GameDesk;
@@ -20,7 +21,7 @@ pub fn games_played<R: Source>(given: Rules, reader: &mut R) -> Result<GameDesk,
     ensures ok { IfOk result (λ desk.
         (text : List ℕ) × (answers : List (List ℕ)) × (report : DeskReport)
         × GivesAll ⟦<R as Source>⟧ reader.old reader.new text
-        × AnswersLines false given NoGame (lines text) answers report desk) }
+        × AnswersLines false Answers given NoGame (lines text) answers report desk) }
 
     // A read failed, or there were too many.
     ensures read_failed { IsErrOf result DeskFault.Read

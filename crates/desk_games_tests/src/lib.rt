@@ -6,6 +6,8 @@
 #[cfg(test)]
 mod desks;
 #[cfg(test)]
+mod explained;
+#[cfg(test)]
 mod facts;
 #[cfg(test)]
 mod failing;

@@ -2,7 +2,7 @@
 use crate::facts::{holds, same};
 use crate::worked::{is_answered, is_counted, is_worked};
 use arrayvec::ArrayVec;
-use desk_games::games_text_with;
+use desk_games::{GamesForm, games_text_with};
 use desk_io::{BytesIn, BytesOut};
 use riichi_hand::Rules;
 use std::test::Fail;
@@ -215,7 +215,14 @@ stands east 1 counters 0 sticks 0 points 30000 30000 30000 30000
     let mut writer: BytesOut<1024> = BytesOut::new(1000, None);
     holds(
         &rt,
-        games_text_with(Rules::One, true, &mut reader, &mut writer).is_ok(),
+        games_text_with(
+            Rules::One,
+            true,
+            GamesForm::Answers,
+            &mut reader,
+            &mut writer,
+        )
+        .is_ok(),
     );
     same(&rt, writer.bytes(), answers.as_slice());
 }

@@ -1,7 +1,7 @@
 //! Texts with their answers.
 use crate::facts::{holds_in, same, same_in};
 use arrayvec::ArrayVec;
-use desk_games::{DeskReport, GamesReport, games_text};
+use desk_games::{DeskReport, GamesForm, GamesReport, games_text, games_text_with};
 use desk_io::{BytesIn, BytesOut};
 use riichi_hand::Rules;
 use std::process::Abort;
@@ -24,6 +24,27 @@ pub(crate) fn is_answered(
     Ok(report.ok().ok_or("a report")?)
 }
 
+/// The answers to a text under the first profile with what stands below them.
+fn is_told_why(
+    rt: &impl Abort,
+    is_numbered: bool,
+    text: &[u8],
+    answers: &[u8],
+) -> Result<(), Fail> {
+    let mut reader = BytesIn::new(text, 1000, None);
+    let mut writer: BytesOut<ROOM> = BytesOut::new(1000, None);
+    let form = GamesForm::Explained;
+    let report = games_text_with(Rules::One, is_numbered, form, &mut reader, &mut writer);
+    same(rt, writer.bytes(), answers);
+    report.ok().ok_or("a report")?;
+    Ok(())
+}
+
+/// The same, behind the numbers of their lines.
+pub(crate) fn is_numbered_so(rt: &impl Abort, text: &[u8], answers: &[u8]) -> Result<(), Fail> {
+    is_told_why(rt, true, text, answers)
+}
+
 /// The answers to a text under the first profile, and how many lines are answered and refused.
 pub(crate) fn is_counted(
     rt: &impl Abort,
@@ -37,8 +58,15 @@ pub(crate) fn is_counted(
     Ok(())
 }
 
+/// A text, and its answers.
+#[derive(Drop)]
+struct Page {
+    text: ArrayVec<u8, ROOM>,
+    answers: ArrayVec<u8, ROOM>,
+}
+
 /// A text whose lines stand above their answers, each of these behind `=> `.
-pub(crate) fn is_worked(rt: &impl Abort, page: &[u8]) -> Result<(), Fail> {
+fn read_page(page: &[u8]) -> Result<Page, Fail> {
     let mut text: ArrayVec<u8, ROOM> = ArrayVec::new();
     let mut answers: ArrayVec<u8, ROOM> = ArrayVec::new();
     for line in page.split(|byte| *byte == b'\n') {
@@ -49,6 +77,23 @@ pub(crate) fn is_worked(rt: &impl Abort, page: &[u8]) -> Result<(), Fail> {
         bytes.try_extend_from_slice(behind).ok().ok_or("room")?;
         bytes.try_push(b'\n').ok().ok_or("room")?;
     }
-    is_answered(rt, Rules::One, text.as_slice(), answers.as_slice())?;
+    Ok(Page { text, answers })
+}
+
+/// A text of games is answered so.
+pub(crate) fn is_worked(rt: &impl Abort, page: &[u8]) -> Result<(), Fail> {
+    let page = read_page(page)?;
+    is_answered(
+        rt,
+        Rules::One,
+        page.text.as_slice(),
+        page.answers.as_slice(),
+    )?;
     Ok(())
+}
+
+/// A text of games is answered so, with what stands below the answers.
+pub(crate) fn is_explained(rt: &impl Abort, page: &[u8]) -> Result<(), Fail> {
+    let page = read_page(page)?;
+    is_told_why(rt, false, page.text.as_slice(), page.answers.as_slice())
 }

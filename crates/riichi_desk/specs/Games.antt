@@ -8,7 +8,16 @@ use Rattle.desk_games.specs.Streams.{games_answers}
 use Rattle.desk_games.specs.Texts.{AnswersLines}
 use Rattle.desk_games.specs.declared.desk.GameDesk.{GameDesk}
 use Rattle.desk_games.specs.declared.desk.GameDesk.TheVariants.{NoGame}
+use Rattle.desk_games.specs.declared.form.GamesForm.{GamesForm}
+use Rattle.desk_games.specs.declared.form.GamesForm.TheVariants as told
+use Rattle.desk_cli.specs.declared.request.GameForm.{GameForm}
+use Rattle.desk_cli.specs.declared.request.GameForm.TheVariants as asked
 use Rattle.desk_cli.specs.declared.request.GameManner.{GameManner}
+
+-- the form of answers that the command line asks for
+abbrev pub form_of : GameForm → GamesForm
+form_of asked.Answers = told.Answers
+form_of asked.Explained = told.Explained
 
 -- The lines of a text of games have these answers, which were written, with the end of the last game behind them; and it was noted
 -- whether a line is refused.
@@ -16,8 +25,8 @@ pub record AnswersGames {W : Type 0} (sink : OfSink W) (manner : GameManner) (ol
   pub answers : List (List ℕ)
   pub report : DeskReport
   pub last : GameDesk
-  pub are : AnswersLines manner.is_numbered manner.rules NoGame (lines text) answers report last
-  pub written : WritesAll sink old new (games_answers answers last)
+  pub are : AnswersLines manner.is_numbered (form_of manner.form) manner.rules NoGame (lines text) answers report last
+  pub written : WritesAll sink old new (games_answers (form_of manner.form) answers last)
   pub refused : is_refused ≡ nat_lt 0 report.refused
 
 -- Texts of games were answered one after another, and it was noted whether a line of any of them is refused.

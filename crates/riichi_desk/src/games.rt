@@ -5,8 +5,8 @@ ghost use Rattle.riichi_desk.specs.Games as spec;
 use crate::failure::Failure;
 use crate::files::{is_input, open_file};
 use crate::noted::Notes;
-use desk_cli::GameManner;
-use desk_games::games_text_with;
+use desk_cli::{GameForm, GameManner};
+use desk_games::{GamesForm, games_text_with};
 use desk_io::{FromReader, Sink, Source, ToWriter};
 use desk_lines::DeskReport;
 use std::io::{Input, Print};
@@ -72,9 +72,20 @@ fn answer_source<'a, S: Source, W: Sink>(
     ensures { IfOk result (λ is_refused. (text : List ℕ)
         × spec.AnswersGames ⟦<W as Sink>⟧ manner writer.old writer.new text is_refused) }
 {
-    match games_text_with(manner.rules, manner.is_numbered, reader, writer) {
+    let form = form_of(manner.form);
+    match games_text_with(manner.rules, manner.is_numbered, form, reader, writer) {
         Ok(report) => Ok(has_refusal(&report.counts)),
         Err(fault) => Err(Failure::Explained(fault)),
+    }
+}
+
+/// The form of answers that the command line asks for.
+fn form_of(form: GameForm) -> GamesForm
+    ensures { result ≡ spec.form_of form }
+{
+    match form {
+        GameForm::Answers => GamesForm::Answers,
+        GameForm::Explained => GamesForm::Explained,
     }
 }
 

@@ -15,12 +15,13 @@ use Rattle.desk_games.proofs.games.Games.begin.Goals as goal
 pub returns-in-None-clause-reply : goal.returns-in-None-clause-reply
 returns-in-None-clause-reply c =
     let desk = c.args.self.now.desk in
+    let form = c.args.self.now.form in
     let read = c.in-None.ensures in (
-      begin_reply desk None,
-      (read.0, read.1, ap (begin_reply desk) (sym read.2)),
+      begin_reply form desk None,
+      (read.0, read.1, ap (begin_reply form desk) (sym read.2)),
       record {
         kind_is = refl;
-        put = put_behind_end c.args.outbox.now.bytes.items c.put_end.new.outbox.bytes.items c.put_refused.new.outbox.bytes.items (with_line_feed (told_at_end desk)) (front_text c.args.front ++ refused_text G3)
+        put = put_behind_end c.args.outbox.now.bytes.items c.put_end.new.outbox.bytes.items c.put_refused.new.outbox.bytes.items (with_line_feed (told_at_end form desk)) (front_text c.args.front ++ refused_text G3)
             c.put_end.ensures.put c.put_refused.ensures;
         desk_is = refl;
       },
@@ -29,13 +30,14 @@ returns-in-None-clause-reply c =
 pub returns-in-Some-clause-reply : goal.returns-in-Some-clause-reply
 returns-in-Some-clause-reply c =
     let desk = c.args.self.now.desk in
+    let form = c.args.self.now.form in
     let line = c.in-Some.line in
     let read = c.in-Some.ensures in (
-      begin_reply desk (Some (said_by line)),
-      (read.0, read.1, ap (begin_reply desk) (sym read.2)),
+      begin_reply form desk (Some (said_by line)),
+      (read.0, read.1, ap (begin_reply form desk) (sym read.2)),
       record {
         kind_is = refl;
-        put = put_behind_end c.args.outbox.now.bytes.items c.put_end.new.outbox.bytes.items c.put_begun.new.outbox.bytes.items (with_line_feed (told_at_end desk)) (front_text c.args.front ++ begun_text (names_in line.names) line.rules.start)
+        put = put_behind_end c.args.outbox.now.bytes.items c.put_end.new.outbox.bytes.items c.put_begun.new.outbox.bytes.items (with_line_feed (told_at_end form desk)) (front_text c.args.front ++ begun_text (names_in line.names) line.rules.start)
             c.put_end.ensures.put c.put_begun.ensures;
         desk_is = ap Game c.new.ensures;
       },

@@ -1,0 +1,4 @@
+pub mod MoveLines
+pub mod EndReasons
+pub mod FinalSums
+pub mod Laws
