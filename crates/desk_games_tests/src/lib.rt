@@ -16,4 +16,6 @@ mod lines;
 #[cfg(test)]
 mod pages;
 #[cfg(test)]
+mod undone;
+#[cfg(test)]
 mod worked;
