@@ -2,7 +2,7 @@
 use Rattle.std.proofs.Common.{◌≡◌, ◌⊎◌, inl, inr, ℕ, List, [], ◌∷◌, Bool, true, false, Option, None, Some, refl, subst, ap, ◌∙◌}
 use Rattle.std.specs.List.{list_any}
 use Rattle.riichi_hand.specs.Rules.{Rules}
-use Rattle.riichi_game_text.specs.GameLines.{GameSaid, game_of, hand_word}
+use Rattle.riichi_game_text.specs.GameLines.{GameSaid, game_of, hand_rules_word}
 use Rattle.riichi_game_text.specs.TableWords.{IsHandRules}
 use Rattle.desk_games.specs.Played.{GameSoFar}
 use Rattle.desk_games.specs.Desks.{new_game, begun_desk}
@@ -69,7 +69,7 @@ further form given next lines game at = record {
 }
 
 begun_at : (form : GamesForm) (given : Rules) (line : List ℕ) (lines : List (List ℕ)) (words : List (List ℕ)) (hand : Option Rules) (said : Option GameSaid) (others : List Reply) (game : GameSoFar) → BeginNone lines → UndoNone lines
-    → seen_in line ≡ Begins words → IsHandRules given (hand_word words) hand → game_of hand words ≡ said → AreReplies form given (begun_desk said) lines others (desk.Game game) → IsAtHand form given (line ∷ lines) game
+    → seen_in line ≡ Begins words → IsHandRules given (hand_rules_word words) hand → game_of hand words ≡ said → AreReplies form given (begun_desk said) lines others (desk.Game game) → IsAtHand form given (line ∷ lines) game
 begun_at form given line lines words hand None others game none keep begins named says are =
     let same : desk.Game game ≡ desk.Refused = stays form given desk.Refused lines others (desk.Game game) refl none are in absurd (cc)
 begun_at form given line lines words hand (Some said) others game none keep begins named says are =

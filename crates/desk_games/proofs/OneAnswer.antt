@@ -2,7 +2,7 @@
 use Rattle.std.proofs.Common.{◌≡◌, ℕ, List, [], ◌∷◌, map, Option, None, Some, refl, sym, subst, ap, ◌∙◌}
 use Rattle.riichi_hand.specs.Rules.{Rules}
 use Rattle.riichi_hand.proofs.RulesTexts.{names_one}
-use Rattle.riichi_game_text.specs.GameLines.{game_of, hand_word}
+use Rattle.riichi_game_text.specs.GameLines.{game_of, hand_rules_word}
 use Rattle.riichi_game_text.specs.TableWords.{IsHandRules}
 use Rattle.desk_lines.specs.Telling.{report_of}
 use Rattle.desk_games.specs.Replies.{LineOfGame, Odd, Blank, Begins, Undo, Entry, seen_in, Reply, begin_reply, IsReplyTo, AreReplies}
@@ -23,7 +23,7 @@ reply_one : (form : GamesForm) (given : Rules) (now : GameDesk) (seen : LineOfGa
 reply_one form given now Odd line one other is also = is ∙ sym also
 reply_one form given now Blank line one other is also = is ∙ sym also
 reply_one form given now (Begins words) line one other is also =
-    is.2 ∙ ap (λ (hand : Option Rules). begin_reply form now (game_of hand words)) (rules_one given (hand_word words) is.0 also.0 is.1 also.1) ∙ sym also.2
+    is.2 ∙ ap (λ (hand : Option Rules). begin_reply form now (game_of hand words)) (rules_one given (hand_rules_word words) is.0 also.0 is.1 also.1) ∙ sym also.2
 reply_one form given now Undo line one other is also = is ∙ sym also
 reply_one form given now Entry line one other is also = is ∙ sym also
 

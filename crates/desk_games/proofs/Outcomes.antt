@@ -6,7 +6,7 @@ use Rattle.riichi_hand.specs.Rules.{Rules}
 use Rattle.riichi_table.specs.declared.outcome.Outcome.{Outcome}
 use Rattle.riichi_game.specs.Games.{after_all}
 use Rattle.riichi_game.specs.declared.game.Progress.{Progress}
-use Rattle.riichi_game_text.specs.Entries.{entry_of}
+use Rattle.riichi_game_text.specs.Entries.{outcome_of_entry}
 use Rattle.riichi_game_text.specs.declared.fault.GameFault.{GameFault}
 use Rattle.riichi_game_text.specs.declared.fault.GameFault.TheVariants.{G1, G14}
 use Rattle.desk_games.specs.Played.{GameSoFar}
@@ -63,7 +63,7 @@ goes_on_one form given game Blank line reply other keeps is = subst (λ (r : Rep
 goes_on_one form given game (Begins words) line reply other keeps is = absurd (cc)
 goes_on_one form given game Undo line reply other keeps is = absurd (cc)
 goes_on_one form given game Entry line reply other keeps is =
-    subst (λ (r : Reply). GoesOn game r) (sym is) (either_so form game game.is_held (entry_of game.names game.progress game.rules line))
+    subst (λ (r : Reply). GoesOn game r) (sym is) (either_so form game game.is_held (outcome_of_entry game.names game.progress game.rules line))
 
 -- ---- more lines
 
@@ -102,7 +102,7 @@ none_taken form given game (Begins words) line reply other keeps held is = absur
 none_taken form given game Undo line reply other keeps held is = absurd (cc)
 none_taken form given game Entry line reply other keeps held is =
     ap (λ (r : Reply). r.outcome) is
-    ∙ ap (λ (b : Bool). (if b then refusal (desk.Game game) G14 else entry_reply form game (entry_of game.names game.progress game.rules line)).outcome) held
+    ∙ ap (λ (b : Bool). (if b then refusal (desk.Game game) G14 else entry_reply form game (outcome_of_entry game.names game.progress game.rules line)).outcome) held
 
 pub held_takes_none : HeldTakesNone
 held_takes_none form given game [] replies last none keep held are = ap outcomes_in are.0

@@ -5,7 +5,7 @@ use Rattle.riichi_hand.specs.Rules.{Rules}
 use Rattle.riichi_table.specs.declared.outcome.Outcome.{Outcome}
 use Rattle.riichi_game.specs.Games.{first_progress, after_all}
 use Rattle.riichi_game.specs.declared.game.Progress.{Progress}
-use Rattle.riichi_game_text.specs.GameLines.{GameSaid, game_of, hand_word}
+use Rattle.riichi_game_text.specs.GameLines.{GameSaid, game_of, hand_rules_word}
 use Rattle.riichi_game_text.specs.TableWords.{IsHandRules}
 use Rattle.desk_lines.specs.declared.report.DeskReport.{DeskReport}
 use Rattle.desk_lines.specs.Telling.{is_refused}
@@ -99,7 +99,7 @@ pub record IsAtHand (form : GamesForm) (given : Rules) (lines : List (List ℕ))
   pub begins : seen_in line ≡ Begins words
   pub others : BeginNone behind
   pub hand : Option Rules
-  pub named : IsHandRules given (hand_word words) hand
+  pub named : IsHandRules given (hand_rules_word words) hand
   pub said : GameSaid
   pub says : game_of hand words ≡ Some said
   pub replies : List Reply

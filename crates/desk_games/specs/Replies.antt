@@ -8,9 +8,9 @@ use Rattle.riichi_table.specs.declared.outcome.Outcome.TheVariants.{Penalty, End
 use Rattle.riichi_game.specs.Games.{after_one}
 use Rattle.riichi_game.specs.declared.game.Progress.{Progress}
 use Rattle.riichi_game_text.specs.Answers.{begun_text, deal_text, penalty_text, stands_text}
-use Rattle.riichi_game_text.specs.Entries.{entry_of, is_odd}
+use Rattle.riichi_game_text.specs.Entries.{outcome_of_entry, is_odd}
 use Rattle.riichi_game_text.specs.FaultTexts.{refused_text}
-use Rattle.riichi_game_text.specs.GameLines.{GameSaid, game_of, hand_word}
+use Rattle.riichi_game_text.specs.GameLines.{GameSaid, game_of, hand_rules_word}
 use Rattle.riichi_game_text.specs.TableWords.{IsHandRules}
 use Rattle.riichi_game_text.specs.Words.{said_in}
 use Rattle.riichi_game_text.specs.declared.fault.GameFault.{GameFault}
@@ -125,7 +125,7 @@ entry_reply form game (Ok outcome) = accept form game outcome
 abbrev pub game_reply : GamesForm → GameSoFar → List ℕ → Reply
 game_reply form game line =
     if game.is_held then refusal (desk.Game game) G14
-    else entry_reply form game (entry_of game.names game.progress game.rules line)
+    else entry_reply form game (outcome_of_entry game.names game.progress game.rules line)
 
 -- ---- where a line is taken back
 
@@ -166,7 +166,7 @@ abbrev pub IsReplyTo : GamesForm → Rules → GameDesk → LineOfGame → List 
 IsReplyTo form given now Odd line reply = reply ≡ refusal now G1
 IsReplyTo form given now Blank line reply = reply ≡ blank_reply now
 IsReplyTo form given now (Begins words) line reply =
-    (hand : Option Rules) × IsHandRules given (hand_word words) hand × (reply ≡ begin_reply form now (game_of hand words))
+    (hand : Option Rules) × IsHandRules given (hand_rules_word words) hand × (reply ≡ begin_reply form now (game_of hand words))
 IsReplyTo form given now Undo line reply = reply ≡ undo_reply now
 IsReplyTo form given now Entry line reply = reply ≡ other_reply form now line
 

@@ -18,7 +18,7 @@ use riichi_game_reasons::{EndReason, push_end_reason};
 use riichi_game_text::{
     GameFault, GameLine, Names, push_begun, push_deal, push_penalty, push_refused, push_stands,
 };
-use riichi_table::{Outcome, Player};
+use riichi_table::{GameState, Outcome, Player};
 use riichi_text::{AnswerText, MOST_U64, push_number};
 
 /// The bytes of the longest number of a line, and of what parts it from the answer.

@@ -1,7 +1,7 @@
 -- The reason that is told for the end of a game is the end that came.
 use Rattle.std.proofs.Common.{◌≡◌, ◌⊎◌, inl, inr, Bool, true, false, not, ◌&&◌, ◌||◌, Option, None, Some, Result, Ok, Err, refl, sym, subst, ap, ◌∙◌}
 use Rattle.std.specs.Prelude.{ℤ, if◌then◌else◌}
-use Rattle.riichi_table.specs.Players.{is_same, after}
+use Rattle.riichi_table.specs.Players.{is_same_player, after}
 use Rattle.riichi_table.specs.declared.fault.OutcomeFault.{OutcomeFault}
 use Rattle.riichi_table.specs.declared.player.ByPlayer.{ByPlayer}
 use Rattle.riichi_table.specs.declared.player.Player.{Player}
@@ -61,20 +61,20 @@ more_over rules state points = is_behind_last rules state.round && is_enough rul
 stop_means : (rules : TableRules) (state : GameState) (played stays : Bool) (points : ByPlayer ℤ) → is_over_by_stop rules state played stays points ≡ true
     → (stays ≡ true) × (not (is_before_last rules state.round) ≡ true)
 stop_means rules state played stays points is =
-    stop_parts rules.stop played (is_same state.dealer Fourth) stays (not (is_before_last rules state.round)) (fourth_leads points)
+    stop_parts rules.stop played (is_same_player state.dealer Fourth) stays (not (is_before_last rules state.round)) (fourth_leads points)
         (is_behind_last rules state.round || is_enough rules.extra points) is
 
 stays_no_length : (rules : TableRules) (state : GameState) (stays : Bool) (points : ByPlayer ℤ) → stays ≡ true → more_over rules state points ≡ false
     → is_over_by_length rules state stays points ≡ false
 stays_no_length rules state stays points is none =
-    rw is (length_off (not (is_before_last rules state.round)) (is_same state.dealer Fourth) (is_behind_last rules state.round || is_enough rules.extra points)
+    rw is (length_off (not (is_before_last rules state.round)) (is_same_player state.dealer Fourth) (is_behind_last rules state.round || is_enough rules.extra points)
         (is_behind_last rules state.round) (is_enough rules.extra points) none)
 
 more_is_length : (rules : TableRules) (state : GameState) (stays : Bool) (points : ByPlayer ℤ) → not (is_before_last rules state.round) ≡ true → more_over rules state points ≡ true
     → is_over_by_length rules state stays points ≡ true
 more_is_length rules state stays points last more =
     length_on (not (is_before_last rules state.round))
-        (is_same state.dealer Fourth && not stays && (is_behind_last rules state.round || is_enough rules.extra points))
+        (is_same_player state.dealer Fourth && not stays && (is_behind_last rules state.round || is_enough rules.extra points))
         (is_behind_last rules state.round) (is_enough rules.extra points) last more
 
 -- one of the three ends came
@@ -125,7 +125,7 @@ told rules state outcome false false false bust_is more_is stays_is over =
 
 -- ---- an outcome that ends a game
 
-dealer_stays : (stays : Bool) (dealer : Player) → is_same (if stays then dealer else after dealer) dealer ≡ stays
+dealer_stays : (stays : Bool) (dealer : Player) → is_same_player (if stays then dealer else after dealer) dealer ≡ stays
 dealer_stays true First = refl
 dealer_stays true Second = refl
 dealer_stays true Third = refl
@@ -140,8 +140,8 @@ by_deal : (rules : TableRules) (state : GameState) (outcome : Outcome)
     → is_over_by_deal state rules outcome ≡ true → HoldsOf (deal_reason rules state (state_after state rules outcome)) rules state outcome
 by_deal rules state outcome dealer over =
     told rules state outcome (rules.bust && is_bust (points_after state rules outcome)) (more_over rules state (points_after state rules outcome))
-        (is_same (dealer_after state rules outcome) state.dealer) refl refl
-        (sym (ap (λ (next : Player). is_same next state.dealer) dealer ∙ dealer_stays (stays_after state rules outcome) state.dealer)) over
+        (is_same_player (dealer_after state rules outcome) state.dealer) refl refl
+        (sym (ap (λ (next : Player). is_same_player next state.dealer) dealer ∙ dealer_stays (stays_after state rules outcome) state.dealer)) over
 
 by_outcome : (rules : TableRules) (state : GameState) (outcome : Outcome) → over_after false state rules outcome ≡ true
     → HoldsOf (end_reason rules state (state_after state rules outcome) outcome) rules state outcome

@@ -1,6 +1,6 @@
 -- Why a game is over.
 use Rattle.std.specs.Prelude.{ℕ, Bool, ◌&&◌, List, [], ◌++◌, codes, decimal, ℤ, pos, int_lt, int_le, if◌then◌else◌, Option, None, Some}
-use Rattle.riichi_table.specs.Players.{of_player, is_same}
+use Rattle.riichi_table.specs.Players.{of_player, is_same_player}
 use Rattle.riichi_table.specs.declared.player.Player.TheVariants.{Fourth}
 use Rattle.riichi_table.specs.declared.player.ByPlayer.{ByPlayer}
 use Rattle.riichi_table.specs.declared.rules.TableRules.{TableRules}
@@ -18,7 +18,7 @@ abbrev pub deal_reason : TableRules → GameState → GameState → EndReason
 deal_reason rules before after =
     if rules.bust && is_bust after.points then Bust
     else if is_behind_last rules before.round && is_enough rules.extra after.points then Enough
-    else if is_same after.dealer before.dealer then Stopped
+    else if is_same_player after.dealer before.dealer then Stopped
     else Played
 
 -- why a game is over that an outcome ends, by the states before and after it

@@ -1,12 +1,12 @@
 -- How the final points are made, in words.
 use Rattle.std.specs.Prelude.{ℕ, ◌+◌, ◌==◌, Bool, ◌&&◌, nat_lt, nat_le, List, [], ◌++◌, codes, decimal, ℤ, if◌then◌else◌}
-use Rattle.riichi_table.specs.Players.{of_player, count_of}
+use Rattle.riichi_table.specs.Players.{of_player, count_players}
 use Rattle.riichi_table.specs.declared.player.Player.{Player}
 use Rattle.riichi_table.specs.declared.player.ByPlayer.{ByPlayer}
 use Rattle.riichi_table.specs.declared.rules.TableRules.{TableRules}
 use Rattle.riichi_places.specs.Bonuses.{place_bonus}
 use Rattle.riichi_places.specs.declared.finals.FinalPoints.{FinalPoints}
-use Rattle.riichi_game_text.specs.Answers.{of_four, number_text, change_text}
+use Rattle.riichi_game_text.specs.Answers.{of_four, signed_text, points_change_text}
 use Rattle.riichi_game_reasons.specs.EndReasons.{name_if}
 
 -- ---- the bonuses that several share
@@ -16,7 +16,7 @@ is_placed_at finals place player = (of_player finals player).place == place
 
 -- how many have a place
 abbrev pub sharers_at : ByPlayer FinalPoints → ℕ → ℕ
-sharers_at finals place = count_of (is_placed_at finals place)
+sharers_at finals place = count_players (is_placed_at finals place)
 
 abbrev pub sharer_names : ByPlayer (List ℕ) → ByPlayer FinalPoints → ℕ → List ℕ
 sharer_names names finals place = of_four (λ player. name_if (is_placed_at finals place player) (of_player names player))
@@ -35,7 +35,7 @@ places_words first number =
     ++ place_if (is_taken_by first number 3) 3 ++ place_if (is_taken_by first number 4) 4
 
 abbrev pub bonus_if : TableRules → Bool → ℕ → List ℕ
-bonus_if rules holds place = if holds then codes " " ++ change_text (place_bonus rules place) else []
+bonus_if rules holds place = if holds then codes " " ++ points_change_text (place_bonus rules place) else []
 
 -- ` +5000 -5000`
 abbrev pub bonuses_words : TableRules → ℕ → ℕ → List ℕ
@@ -58,13 +58,13 @@ shared_if names rules finals place =
 
 -- `: (32700 - 30000`
 abbrev pub over_return : ℤ → ℕ → List ℕ
-over_return points returns = codes ": (" ++ number_text points ++ codes " - " ++ decimal returns
+over_return points returns = codes ": (" ++ signed_text points ++ codes " - " ++ decimal returns
 
 -- `  Bo: (32700 - 30000) + bonus 0 - penalty 8000 = -5300`
 abbrev pub sum_line : List ℕ → ℕ → FinalPoints → List ℕ
 sum_line name returns final =
-    codes "  " ++ name ++ over_return final.points returns ++ codes ") + bonus " ++ number_text final.bonus
-    ++ codes " - penalty " ++ decimal final.penalty ++ codes " = " ++ number_text final.total
+    codes "  " ++ name ++ over_return final.points returns ++ codes ") + bonus " ++ signed_text final.bonus
+    ++ codes " - penalty " ++ decimal final.penalty ++ codes " = " ++ signed_text final.total
 
 -- ---- together
 

@@ -1,6 +1,6 @@
 -- What an outcome moves, in words: a line for each move.
 use Rattle.std.specs.Prelude.{ℕ, ◌*◌, ◌==◌, List, [], ◌++◌, codes, decimal, Bool, true, not, if◌then◌else◌, Option, None, Some}
-use Rattle.riichi_table.specs.Players.{of_player, is_same}
+use Rattle.riichi_table.specs.Players.{of_player, is_same_player}
 use Rattle.riichi_table.specs.declared.player.Player.{Player}
 use Rattle.riichi_table.specs.declared.player.ByPlayer.{ByPlayer}
 use Rattle.riichi_table.specs.declared.worth.Worth.{Worth}
@@ -42,7 +42,7 @@ hand_words (Yakuman limits) = yakuman_words limits
 
 -- a discarder who is liable pays as ever
 abbrev pub is_parted : Outcome → Liable → Bool
-is_parted (outcomes.Ron from wins riichi) liable = not (is_same liable.player from)
+is_parted (outcomes.Ron from wins riichi) liable = not (is_same_player liable.player from)
 is_parted other liable = true
 
 -- what is paid for as ever: the limits that nobody is liable for, or the whole hand

@@ -2,7 +2,7 @@
 ghost use Rattle.std.specs.Prelude.{◌≡◌, ◌+◌, ◌*◌, ◌≤◌, ◌++◌, ◌≤ℤ◌, pos, negsuc};
 ghost use Rattle.arrayvec.specs.ArrayString.{array_string_len};
 ghost use Rattle.riichi_places.specs.Bonuses.{place_bonus, returned};
-ghost use Rattle.riichi_game_text.specs.Answers.{number_text, change_text};
+ghost use Rattle.riichi_game_text.specs.Answers.{signed_text, points_change_text};
 ghost use Rattle.riichi_game_text.specs.Names.{names_in};
 ghost use Rattle.riichi_game_reasons.specs.FinalSums as spec;
 
@@ -236,10 +236,10 @@ fn push_bonus_if(text: &mut AnswerText, rules: &TableRules, holds: bool, place: 
 }
 
 /// Writes an amount with its sign.
-#[tactic(auto, unfolding(riichi_game_text::specs::Answers::change_text))]
+#[tactic(auto, unfolding(riichi_game_text::specs::Answers::points_change_text))]
 fn push_gain(text: &mut AnswerText, points: i64)
     requires { array_string_len text.old + MOST_AMOUNT ≤ ANSWER_ROOM }
-    ensures bytes { text.new.bytes ≡ text.old.bytes ++ change_text points }
+    ensures bytes { text.new.bytes ≡ text.old.bytes ++ points_change_text points }
     ensures len { array_string_len text.new ≤ array_string_len text.old + MOST_AMOUNT }
 {
     if points > 0 {
@@ -303,10 +303,10 @@ fn push_over_return(text: &mut AnswerText, points: i64, returns: u32)
     push_number(text, returns);
 }
 
-#[tactic(auto, unfolding(riichi_game_text::specs::Answers::number_text))]
+#[tactic(auto, unfolding(riichi_game_text::specs::Answers::signed_text))]
 fn push_amount(text: &mut AnswerText, points: i64)
     requires { array_string_len text.old + MOST_AMOUNT ≤ ANSWER_ROOM }
-    ensures bytes { text.new.bytes ≡ text.old.bytes ++ number_text points }
+    ensures bytes { text.new.bytes ≡ text.old.bytes ++ signed_text points }
     ensures len { array_string_len text.new ≤ array_string_len text.old + MOST_AMOUNT }
 {
     push_number(text, points);

@@ -26,7 +26,7 @@ pub struct AcceptedLine {
 
 /// What a line says in a game that has come so far, or the first fault of the line, G1 to G13. The line comes without the line feed
 /// and the carriage return that ended it.
-#[tactic(auto, unfolding(crate::specs::Entries::entry_of))]
+#[tactic(auto, unfolding(crate::specs::Entries::outcome_of_entry))]
 pub fn read_entry(
     names: &Names,
     progress: &Progress,
@@ -34,10 +34,10 @@ pub fn read_entry(
     line: &[u8],
 ) -> Result<AcceptedLine, GameFault>
     ensures ok { IfOk result (λ accepted.
-        (spec.entry_of (names_in names.now) progress.now rules.now line.now ≡ Ok accepted.outcome)
+        (spec.outcome_of_entry (names_in names.now) progress.now rules.now line.now ≡ Ok accepted.outcome)
         × (next_of progress.now rules.now accepted.outcome ≡ Ok accepted.after)) }
     ensures err { IfErr result (λ fault.
-        spec.entry_of (names_in names.now) progress.now rules.now line.now ≡ Err fault) }
+        spec.outcome_of_entry (names_in names.now) progress.now rules.now line.now ≡ Err fault) }
 {
     if is_odd(line) {
         return Err(GameFault::G1);
@@ -119,7 +119,7 @@ fn outcome_by(
 
 /// The code of a fault by the rules and by what the table shows.
 fn game_fault_of(fault: OutcomeFault) -> GameFault
-    ensures { result ≡ spec.code_of fault }
+    ensures { result ≡ spec.game_fault_of fault }
 {
     match fault {
         OutcomeFault::NobodyWins => GameFault::G4,
