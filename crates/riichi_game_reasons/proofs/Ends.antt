@@ -13,7 +13,7 @@ use Rattle.riichi_table.specs.declared.outcome.Outcome.TheVariants.{Ron, Tsumo, 
 use Rattle.riichi_settle.specs.Winners.{as_played}
 use Rattle.riichi_game.specs.Ends.{is_before_last, is_behind_last, is_bust, is_enough, fourth_leads, is_win_or_draw, is_over_by_length, is_over_by_stop, is_over_with, is_over_by_deal, over_after}
 use Rattle.riichi_game.specs.Faults.{fault_of, progress_after, unless}
-use Rattle.riichi_game.specs.Following.{stays_after, points_after, dealer_after, state_after}
+use Rattle.riichi_game.specs.Following.{stays_after, points_after, dealer_by, dealer_after, state_after}
 use Rattle.riichi_game.specs.declared.game.Progress.{Progress}
 use Rattle.riichi_game_reasons.specs.EndReasons.{deal_reason, end_reason}
 use Rattle.riichi_game_reasons.specs.Laws.{HoldsOf, TellsWhatHolds}
@@ -145,7 +145,7 @@ by_deal rules state outcome dealer over =
 
 by_outcome : (rules : TableRules) (state : GameState) (outcome : Outcome) → over_after false state rules outcome ≡ true
     → HoldsOf (end_reason rules state (state_after state rules outcome) outcome) rules state outcome
-unfolding over_after, dealer_after
+unfolding over_after, dealer_by
 by_outcome rules state End over = refl
 by_outcome rules state (Penalty player points) over = absurd (cc)
 by_outcome rules state (Stands written) over = absurd (cc)
