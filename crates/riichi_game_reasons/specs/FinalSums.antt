@@ -50,7 +50,7 @@ shared_line names rules finals place number =
     ++ codes ":" ++ bonuses_words rules place number ++ codes " in " ++ decimal number ++ codes " parts\n"
 
 -- the line of a place that several have
-abbrev pub shared_if : ByPlayer (List ℕ) → TableRules → ByPlayer FinalPoints → ℕ → List ℕ
+unfoldable pub shared_if : ByPlayer (List ℕ) → TableRules → ByPlayer FinalPoints → ℕ → List ℕ
 shared_if names rules finals place =
     if nat_lt 1 (sharers_at finals place) then shared_line names rules finals place (sharers_at finals place) else []
 
@@ -60,19 +60,30 @@ shared_if names rules finals place =
 abbrev pub over_return : ℤ → ℕ → List ℕ
 over_return points returns = codes ": (" ++ signed_text points ++ codes " - " ++ decimal returns
 
+-- `) + bonus 0 - penalty 8000 = -5300`
+abbrev pub with_bonus : FinalPoints → List ℕ
+with_bonus final =
+    codes ") + bonus " ++ signed_text final.bonus ++ codes " - penalty " ++ decimal final.penalty
+    ++ codes " = " ++ signed_text final.total
+
 -- `  Bo: (32700 - 30000) + bonus 0 - penalty 8000 = -5300`
-abbrev pub sum_line : List ℕ → ℕ → FinalPoints → List ℕ
-sum_line name returns final =
-    codes "  " ++ name ++ over_return final.points returns ++ codes ") + bonus " ++ signed_text final.bonus
-    ++ codes " - penalty " ++ decimal final.penalty ++ codes " = " ++ signed_text final.total
+unfoldable pub sum_line : List ℕ → ℕ → FinalPoints → List ℕ
+sum_line name returns final = codes "  " ++ name ++ over_return final.points returns ++ with_bonus final
 
 -- ---- together
 
--- the places that several share, and then how each total adds up, in the order of the first seats
-abbrev pub final_reasons : ByPlayer (List ℕ) → TableRules → ByPlayer FinalPoints → List ℕ
-final_reasons names rules finals =
+-- a line for each place that several have
+unfoldable pub shared_lines : ByPlayer (List ℕ) → TableRules → ByPlayer FinalPoints → List ℕ
+shared_lines names rules finals =
     shared_if names rules finals 1 ++ shared_if names rules finals 2 ++ shared_if names rules finals 3
     ++ shared_if names rules finals 4
-    ++ sum_line names.first rules.returns finals.first ++ codes "\n" ++ sum_line names.second rules.returns finals.second
-    ++ codes "\n" ++ sum_line names.third rules.returns finals.third
-    ++ codes "\n" ++ sum_line names.fourth rules.returns finals.fourth
+
+-- a line for each player, in the order of the first seats
+unfoldable pub sum_lines : ByPlayer (List ℕ) → ℕ → ByPlayer FinalPoints → List ℕ
+sum_lines names returns finals =
+    sum_line names.first returns finals.first ++ codes "\n" ++ sum_line names.second returns finals.second
+    ++ codes "\n" ++ sum_line names.third returns finals.third ++ codes "\n" ++ sum_line names.fourth returns finals.fourth
+
+-- the places that several share, and then how each total adds up
+abbrev pub final_reasons : ByPlayer (List ℕ) → TableRules → ByPlayer FinalPoints → List ℕ
+final_reasons names rules finals = shared_lines names rules finals ++ sum_lines names rules.returns finals

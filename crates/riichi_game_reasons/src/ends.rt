@@ -89,7 +89,7 @@ fn has_so_many(points: &ByPlayer<i32>, most: u32) -> bool
 }
 
 /// Whether points are so many or more.
-pub(crate) fn has_at_least(points: i32, most: u32) -> bool
+fn has_at_least(points: i32, most: u32) -> bool
     ensures { result ≡ int_le (pos most) points }
 {
     i64::from(most) <= i64::from(points)

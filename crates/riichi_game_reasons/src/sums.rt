@@ -34,19 +34,20 @@ const MOST_SHARED: usize = "  places".len()
 
 const MOST_OVER_RETURN: usize = ": (".len() + MOST_AMOUNT + " - ".len() + MOST_U32;
 
-/// The bytes of the longest line of a player.
-const MOST_SUM: usize = "  ".len()
-    + MOST_NAME
-    + MOST_OVER_RETURN
-    + ") + bonus ".len()
+const MOST_WITH_BONUS: usize = ") + bonus ".len()
     + MOST_AMOUNT
     + " - penalty ".len()
     + MOST_U32
     + " = ".len()
     + MOST_AMOUNT;
 
+/// The bytes of the longest line of a player.
+const MOST_SUM: usize = "  ".len() + MOST_NAME + MOST_OVER_RETURN + MOST_WITH_BONUS;
+
+const MOST_SUMS: usize = 4 * MOST_SUM + 3 * "\n".len();
+
 /// The bytes of all that is said of final points.
-pub const MOST_FINAL_REASONS: usize = 4 * MOST_SHARED + 4 * MOST_SUM + 3 * "\n".len();
+pub const MOST_FINAL_REASONS: usize = 4 * MOST_SHARED + MOST_SUMS;
 
 /// Writes how the final points are made, without the end of the last line: a line for each place that several share, and one for each
 /// player by the first seat.
@@ -61,40 +62,48 @@ pub fn push_final_reasons(
         ≡ text.old.bytes ++ spec.final_reasons (names_in names.now) rules.now finals.now }
     ensures len { array_string_len text.new ≤ array_string_len text.old + MOST_FINAL_REASONS }
 {
+    push_all_shared(text, names, rules, finals);
+    push_sums(text, names, rules.returns, finals);
+}
+
+/// Writes a line for each place that several have.
+#[tactic(auto, unfolding(crate::specs::FinalSums::shared_lines))]
+fn push_all_shared(
+    text: &mut AnswerText,
+    names: &Names,
+    rules: &TableRules,
+    finals: &ByPlayer<FinalPoints>,
+)
+    requires { array_string_len text.old + 4 * MOST_SHARED ≤ ANSWER_ROOM }
+    ensures bytes { text.new.bytes
+        ≡ text.old.bytes ++ spec.shared_lines (names_in names.now) rules.now finals.now }
+    ensures len { array_string_len text.new ≤ array_string_len text.old + 4 * MOST_SHARED }
+{
     push_if_shared(text, names, rules, finals, 1);
     push_if_shared(text, names, rules, finals, 2);
     push_if_shared(text, names, rules, finals, 3);
     push_if_shared(text, names, rules, finals, 4);
-    push_sum(
-        text,
-        &names.get(Player::First),
-        rules.returns,
-        &finals.first,
-    );
+}
+
+/// Writes how the final points of each player add up, without the end of the last line.
+#[tactic(auto, unfolding(crate::specs::FinalSums::sum_lines))]
+fn push_sums(text: &mut AnswerText, names: &Names, returns: u32, finals: &ByPlayer<FinalPoints>)
+    requires { array_string_len text.old + MOST_SUMS ≤ ANSWER_ROOM }
+    ensures bytes { text.new.bytes
+        ≡ text.old.bytes ++ spec.sum_lines (names_in names.now) returns finals.now }
+    ensures len { array_string_len text.new ≤ array_string_len text.old + MOST_SUMS }
+{
+    push_sum(text, &names.get(Player::First), returns, &finals.first);
     text.push_str("\n");
-    push_sum(
-        text,
-        &names.get(Player::Second),
-        rules.returns,
-        &finals.second,
-    );
+    push_sum(text, &names.get(Player::Second), returns, &finals.second);
     text.push_str("\n");
-    push_sum(
-        text,
-        &names.get(Player::Third),
-        rules.returns,
-        &finals.third,
-    );
+    push_sum(text, &names.get(Player::Third), returns, &finals.third);
     text.push_str("\n");
-    push_sum(
-        text,
-        &names.get(Player::Fourth),
-        rules.returns,
-        &finals.fourth,
-    );
+    push_sum(text, &names.get(Player::Fourth), returns, &finals.fourth);
 }
 
 /// Writes the line of a place, where several have it.
+#[tactic(auto, unfolding(crate::specs::FinalSums::shared_if))]
 fn push_if_shared(
     text: &mut AnswerText,
     names: &Names,
@@ -274,6 +283,7 @@ fn beyond_start(rules: &TableRules) -> i64
 }
 
 /// Writes how the final points of a player add up, without the line's end.
+#[tactic(auto, unfolding(crate::specs::FinalSums::sum_line))]
 fn push_sum(text: &mut AnswerText, name: &Name, returns: u32, of: &FinalPoints)
     requires { array_string_len text.old + MOST_SUM ≤ ANSWER_ROOM }
     ensures bytes { text.new.bytes
@@ -283,6 +293,15 @@ fn push_sum(text: &mut AnswerText, name: &Name, returns: u32, of: &FinalPoints)
     text.push_str("  ");
     text.push_str(name.as_str());
     push_over_return(text, of.points, returns);
+    push_with_bonus(text, of);
+}
+
+/// Writes the bonus, the penalty and the total behind these.
+fn push_with_bonus(text: &mut AnswerText, of: &FinalPoints)
+    requires { array_string_len text.old + MOST_WITH_BONUS ≤ ANSWER_ROOM }
+    ensures bytes { text.new.bytes ≡ text.old.bytes ++ spec.with_bonus of.now }
+    ensures len { array_string_len text.new ≤ array_string_len text.old + MOST_WITH_BONUS }
+{
     text.push_str(") + bonus ");
     push_amount(text, of.bonus);
     text.push_str(" - penalty ");

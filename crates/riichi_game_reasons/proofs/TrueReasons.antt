@@ -62,20 +62,20 @@ stop_means : (rules : TableRules) (state : GameState) (played stays : Bool) (poi
     → (stays ≡ true) × (not (is_before_last rules state.round) ≡ true)
 stop_means rules state played stays points is =
     stop_parts rules.stop played (is_same_player state.dealer Fourth) stays (not (is_before_last rules state.round)) (fourth_leads points)
-        (is_behind_last rules state.round || is_enough rules.extra points) is
+    (is_behind_last rules state.round || is_enough rules.extra points) is
 
 stays_no_length : (rules : TableRules) (state : GameState) (stays : Bool) (points : ByPlayer ℤ) → stays ≡ true → more_over rules state points ≡ false
     → is_over_by_length rules state stays points ≡ false
 stays_no_length rules state stays points is none =
     rw is (length_off (not (is_before_last rules state.round)) (is_same_player state.dealer Fourth) (is_behind_last rules state.round || is_enough rules.extra points)
-        (is_behind_last rules state.round) (is_enough rules.extra points) none)
+    (is_behind_last rules state.round) (is_enough rules.extra points) none)
 
 more_is_length : (rules : TableRules) (state : GameState) (stays : Bool) (points : ByPlayer ℤ) → not (is_before_last rules state.round) ≡ true → more_over rules state points ≡ true
     → is_over_by_length rules state stays points ≡ true
 more_is_length rules state stays points last more =
     length_on (not (is_before_last rules state.round))
-        (is_same_player state.dealer Fourth && not stays && (is_behind_last rules state.round || is_enough rules.extra points))
-        (is_behind_last rules state.round) (is_enough rules.extra points) last more
+    (is_same_player state.dealer Fourth && not stays && (is_behind_last rules state.round || is_enough rules.extra points))
+    (is_behind_last rules state.round) (is_enough rules.extra points) last more
 
 -- one of the three ends came
 ends_by : (rules : TableRules) (state : GameState) (played stays : Bool) (points : ByPlayer ℤ) → is_over_with rules state played stays points ≡ true
@@ -83,10 +83,10 @@ ends_by : (rules : TableRules) (state : GameState) (played stays : Bool) (points
 unfolding is_over_with
 ends_by rules state played stays points over none =
     elim (either ((rules.bust && is_bust points) || is_over_by_length rules state stays points) (is_over_by_stop rules state played stays points) over)
-        as (λ _. (is_over_by_length rules state stays points ≡ true) ⊎ (is_over_by_stop rules state played stays points ≡ true)) [
+    as (λ _. (is_over_by_length rules state stays points ≡ true) ⊎ (is_over_by_stop rules state played stays points ≡ true)) [
       | inl first ↦
           elim (either (rules.bust && is_bust points) (is_over_by_length rules state stays points) first)
-              as (λ _. (is_over_by_length rules state stays points ≡ true) ⊎ (is_over_by_stop rules state played stays points ≡ true)) [
+          as (λ _. (is_over_by_length rules state stays points ≡ true) ⊎ (is_over_by_stop rules state played stays points ≡ true)) [
             | inl bust ↦ let clash : false ≡ true = sym none ∙ bust in absurd (cc)
             | inr length ↦ inl length
           ]
@@ -102,7 +102,7 @@ told rules state outcome false true stays bust_is more_is stays_is over =
     let points = points_after state rules outcome in
     let played = is_win_or_draw (as_played rules outcome) in
     elim (ends_by rules state played (stays_after state rules outcome) points over bust_is)
-        as (λ _. is_over_by_length rules state (stays_after state rules outcome) points ≡ true) [
+    as (λ _. is_over_by_length rules state (stays_after state rules outcome) points ≡ true) [
       | inl length ↦ length
       | inr stop ↦ more_is_length rules state (stays_after state rules outcome) points (stop_means rules state played (stays_after state rules outcome) points stop).1 more_is
     ]
@@ -110,7 +110,7 @@ told rules state outcome false false true bust_is more_is stays_is over =
     let points = points_after state rules outcome in
     let played = is_win_or_draw (as_played rules outcome) in
     elim (ends_by rules state played (stays_after state rules outcome) points over bust_is)
-        as (λ _. is_over_by_stop rules state played (stays_after state rules outcome) points ≡ true) [
+    as (λ _. is_over_by_stop rules state played (stays_after state rules outcome) points ≡ true) [
       | inl length ↦ let clash : true ≡ false = sym length ∙ stays_no_length rules state (stays_after state rules outcome) points stays_is more_is in absurd (cc)
       | inr stop ↦ stop
     ]
@@ -118,7 +118,7 @@ told rules state outcome false false false bust_is more_is stays_is over =
     let points = points_after state rules outcome in
     let played = is_win_or_draw (as_played rules outcome) in
     elim (ends_by rules state played (stays_after state rules outcome) points over bust_is)
-        as (λ _. is_over_by_length rules state (stays_after state rules outcome) points ≡ true) [
+    as (λ _. is_over_by_length rules state (stays_after state rules outcome) points ≡ true) [
       | inl length ↦ length
       | inr stop ↦ let clash : true ≡ false = sym (stop_means rules state played (stays_after state rules outcome) points stop).0 ∙ stays_is in absurd (cc)
     ]
@@ -140,12 +140,12 @@ by_deal : (rules : TableRules) (state : GameState) (outcome : Outcome)
     → is_over_by_deal state rules outcome ≡ true → HoldsOf (deal_reason rules state (state_after state rules outcome)) rules state outcome
 by_deal rules state outcome dealer over =
     told rules state outcome (rules.bust && is_bust (points_after state rules outcome)) (more_over rules state (points_after state rules outcome))
-        (is_same_player (dealer_after state rules outcome) state.dealer) refl refl
-        (sym (ap (λ (next : Player). is_same_player next state.dealer) dealer ∙ dealer_stays (stays_after state rules outcome) state.dealer)) over
+    (is_same_player (dealer_after state rules outcome) state.dealer) refl refl
+    (sym (ap (λ (next : Player). is_same_player next state.dealer) dealer ∙ dealer_stays (stays_after state rules outcome) state.dealer)) over
 
 by_outcome : (rules : TableRules) (state : GameState) (outcome : Outcome) → over_after false state rules outcome ≡ true
     → HoldsOf (end_reason rules state (state_after state rules outcome) outcome) rules state outcome
-unfolding over_after, dealer_by
+unfolding over_after dealer_by
 by_outcome rules state End over = refl
 by_outcome rules state (Penalty player points) over = absurd (cc)
 by_outcome rules state (Stands written) over = absurd (cc)
@@ -176,4 +176,4 @@ pub tells_what_holds : TellsWhatHolds
 tells_what_holds rules before next outcome open_yet reaches over =
     let is : progress_after before rules outcome ≡ next = accepted (fault_of before rules outcome) (progress_after before rules outcome) next reaches in
     subst (λ (p : Progress). HoldsOf (end_reason rules before.state p.state outcome) rules before.state outcome) is
-        (by_progress rules before outcome open_yet (ap (λ (p : Progress). p.is_over) is ∙ over))
+    (by_progress rules before outcome open_yet (ap (λ (p : Progress). p.is_over) is ∙ over))
