@@ -1,5 +1,5 @@
 -- Lines that look like a profile line, among others.
-use Rattle.std.proofs.Common.{◌≡◌, ℕ, ◌+◌, inl, inr, List, [], ◌∷◌, ◌++◌, Bool, true, false, cond, Option, Some, None, map, min, take, length, refl, sym, subst, ◌∙◌, ap, arith, length-append}
+use Rattle.std.proofs.Common.{◌≡◌, ◌⊎◌, ℕ, ◌+◌, inl, inr, List, [], ◌∷◌, ◌++◌, Bool, true, false, cond, Option, Some, None, map, min, take, length, refl, sym, subst, ◌∙◌, ap, arith, length-append}
 use Rattle.std.specs.Prelude.{is_some, unwrap_or, option_map, codes, IsTrue, ◌↔◌}
 use Rattle.std.specs.List.{position_from}
 use Rattle.std.specs.Str.{bytes_eq, IsTrimAsciiStart}
@@ -41,6 +41,12 @@ tested one other false is = elim (cases_Bool (bytes_eq one other)) [
 
 pub begins_so : (text front : List ℕ) (result : Bool) → front ≡ take (min 4 (length text)) text → IsTrue result ↔ (map to_ascii_lowercase front ≡ map to_ascii_lowercase (codes "rule")) → result ≡ begins_word text
 begins_so text front result is test = tested (map to_ascii_lowercase front) (codes "rule") result test ∙ ap (λ (t : List ℕ). bytes_eq (map to_ascii_lowercase t) (codes "rule")) (is ∙ take_min 4 text)
+
+-- a line that begins with the first letter of a job begins with no word `rules`
+pub job_first : (line rest : List ℕ) (first : ℕ) → line ≡ first ∷ rest → (first ≡ 119) ⊎ (first ≡ 115) → is_like_profile line ≡ false
+unfolding is_like_profile
+job_first line rest first is (inl w) = ap is_like_profile (is ∙ ap (λ (byte : ℕ). byte ∷ rest) w)
+job_first line rest first is (inr s) = ap is_like_profile (is ∙ ap (λ (byte : ℕ). byte ∷ rest) s)
 
 -- lines that may have one answer look alike
 pub like_as : (line next : List ℕ) → IsToldAs 4096 line next → is_like_profile line ≡ is_like_profile next
