@@ -1,6 +1,6 @@
 -- Lines that look like a profile line, among others.
-use Rattle.std.proofs.Common.{◌≡◌, ◌⊎◌, ℕ, ◌+◌, inl, inr, List, [], ◌∷◌, ◌++◌, Bool, true, false, cond, Option, Some, None, map, min, take, length, refl, sym, subst, ◌∙◌, ap, arith, length-append}
-use Rattle.std.specs.Prelude.{is_some, unwrap_or, option_map, codes, IsTrue, ◌↔◌}
+use Rattle.std.proofs.Common.{◌≡◌, ℕ, ◌+◌, inl, inr, List, [], ◌∷◌, ◌++◌, Bool, true, false, cond, Option, Some, None, map, min, take, length, refl, sym, subst, ◌∙◌, ap, arith, length-append}
+use Rattle.std.specs.Prelude.{is_some, unwrap_or, option_map, slice_get, codes, IsTrue, ◌↔◌}
 use Rattle.std.specs.List.{position_from}
 use Rattle.std.specs.Str.{bytes_eq, IsTrimAsciiStart}
 use Rattle.std.specs.Char.{to_ascii_lowercase}
@@ -43,10 +43,22 @@ pub begins_so : (text front : List ℕ) (result : Bool) → front ≡ take (min 
 begins_so text front result is test = tested (map to_ascii_lowercase front) (codes "rule") result test ∙ ap (λ (t : List ℕ). bytes_eq (map to_ascii_lowercase t) (codes "rule")) (is ∙ take_min 4 text)
 
 -- a line that begins with the first letter of a job begins with no word `rules`
-pub job_first : (line rest : List ℕ) (first : ℕ) → line ≡ first ∷ rest → (first ≡ 119) ⊎ (first ≡ 115) → is_like_profile line ≡ false
+abbrev IsNoProfile : ℕ → Type 0
+IsNoProfile letter = (rest : List ℕ) → is_like_profile (letter ∷ rest) ≡ false
+
+pub win_or_waits : IsNoProfile 119
 unfolding is_like_profile
-job_first line rest first is (inl w) = ap is_like_profile (is ∙ ap (λ (byte : ℕ). byte ∷ rest) w)
-job_first line rest first is (inr s) = ap is_like_profile (is ∙ ap (λ (byte : ℕ). byte ∷ rest) s)
+win_or_waits rest = refl
+
+pub shape_or_shanten : IsNoProfile 115
+unfolding is_like_profile
+shape_or_shanten rest = refl
+
+pub by_first : (letter : ℕ) → IsNoProfile letter → (line : List ℕ) (first : ℕ) → Some first ≡ slice_get line 0 → first ≡ letter → is_like_profile line ≡ false
+by_first letter none [] first is same = absurd (cc)
+by_first letter none (byte ∷ rest) first is same =
+    let one : first ≡ byte = ap (λ (o : Option ℕ). unwrap_or o 0) is in
+    ap (λ (b : ℕ). is_like_profile (b ∷ rest)) (sym one ∙ same) ∙ none rest
 
 -- lines that may have one answer look alike
 pub like_as : (line next : List ℕ) → IsToldAs 4096 line next → is_like_profile line ≡ is_like_profile next

@@ -10,16 +10,20 @@ const FRONT: usize = 32;
 pub(crate) fn is_like_profile(line: &[u8]) -> bool
     ensures { result ≡ is_like_profile line.now }
 {
-    !begins_job(line)
-        && begins_word(without_space(without_mark(&line[..FRONT.min(line.len())])))
+    if begins_job(line) {
+        return false;
+    }
+    begins_word(without_space(without_mark(&line[..FRONT.min(line.len())])))
 }
 
 /// Whether a line begins with the first letter of a job, as nearly each does: then no other word stands at its front.
-#[tactic(auto, using(crate::proofs::SlipLemmas::job_first), unfolding(crate::specs::Slips::is_like_profile))]
 fn begins_job(line: &[u8]) -> bool
     ensures { IsTrue result → is_like_profile line.now ≡ false }
 {
-    matches!(line, [b'w' | b's', ..])
+    match line.first() {
+        Some(first) => *first == b'w' || *first == b's',
+        None => false,
+    }
 }
 
 fn without_mark(text: &[u8]) -> &[u8]
