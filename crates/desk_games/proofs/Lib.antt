@@ -1,3 +1,4 @@
+pub mod PendingLemmas
 pub mod ReplyLemmas
 pub mod TextLemmas
 pub mod OneAnswer
