@@ -11,6 +11,7 @@ use riichi_game_reasons::{MOST_END_REASON, MOST_MOVE, end_reason, push_end_reaso
 use riichi_game_text::Names;
 use riichi_settle::{MOST_MOVES, Move, moves_of};
 use riichi_table::{Outcome, TableRules};
+use riichi_text::ANSWER_ROOM;
 
 /// A step of a game: an outcome, and how far the game has come before it and after it.
 #[derive(Clone, Copy)]
@@ -22,6 +23,12 @@ pub(crate) struct Step<'a> {
     pub(crate) outcome: &'a Outcome,
 }
 
+/// The bytes of an outbox.
+const OUTBOX_ROOM: usize = 65_536;
+
+/// The bytes of an answer's line.
+const MOST_ANSWER_LINE: usize = ANSWER_ROOM + "\n".len();
+
 /// The bytes of the longest line of a move, with the end of the line before it.
 const MOST_MOVED: usize = "\n".len() + MOST_MOVE;
 
@@ -31,6 +38,7 @@ const MOST_ENDED: usize = "\n".len() + MOST_END_REASON;
 pub(crate) const MOST_BELOW: usize = MOST_MOVES * MOST_MOVED + MOST_ENDED;
 
 /// Puts what stands in the room of texts as a line, and begins the next one there.
+#[tactic(auto, using(crate::proofs::PendingLemmas::line_put))]
 pub(crate) fn next_line(outbox: &mut Outbox)
     requires { HasRoomForText outbox.old }
     ensures pending { pending outbox.new ≡ pending outbox.old ++ 10 ∷ [] }
@@ -77,6 +85,7 @@ fn put_moves(step: &Step<'_>, moves: &[Move], outbox: &mut Outbox)
     }
 }
 
+#[tactic(auto, using(crate::proofs::PendingLemmas::line_begun))]
 fn put_move(step: &Step<'_>, moved: &Move, outbox: &mut Outbox)
     requires { HasRoomForText outbox.old }
     ensures pending { pending outbox.new
