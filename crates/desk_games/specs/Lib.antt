@@ -6,4 +6,5 @@ pub mod Replies
 pub mod Texts
 pub mod Tellers
 pub mod Streams
+pub mod Filling
 pub mod Laws

@@ -54,7 +54,7 @@ impl Games {
     }
 
     /// Takes the next line, and puts its answer.
-    fn take(&mut self, front: Option<u64>, line: &[u8], outbox: &mut Outbox) -> LineKind
+    pub(crate) fn take(&mut self, front: Option<u64>, line: &[u8], outbox: &mut Outbox) -> LineKind
         requires { HasRoomForLine outbox.old }
         ensures given { TellsAlike self.new self.old }
         ensures reply { (reply : Reply)
