@@ -239,12 +239,7 @@ impl GameAtHand {
     }
 
     /// Goes on by what an accepted line says, and puts its answer.
-    fn accept(
-        &mut self,
-        manner: Manner,
-        accepted: &AcceptedLine,
-        outbox: &mut Outbox,
-    ) -> LineKind
+    fn accept(&mut self, manner: Manner, accepted: &AcceptedLine, outbox: &mut Outbox) -> LineKind
         requires room { HasRoomForLine outbox.old }
         requires after { next_of self.old.progress self.old.rules accepted.now.outcome
             ≡ Ok accepted.now.after }
