@@ -78,7 +78,7 @@ first_last (byte ∷ bytes) some plain =
     }
 
 -- the lines of a text are the first and others
-first-others : (text line after : List ℕ) → IsFirstLine text line after → (others : List (List ℕ)) × (lines text ≡ line ∷ others)
+pub first-others : (text line after : List ℕ) → IsFirstLine text line after → (others : List (List ℕ)) × (lines text ≡ line ∷ others)
 first-others text line after first = elim first.cut.whole as (λ _. (others : List (List ℕ)) × (lines text ≡ line ∷ others)) [
   | inl none ↦ (lines after, ap lines first.cut.parts ∙ lines-behind first.front after none ∙ ap (λ ls. ls ++ lines after) first.line_is)
   | inr none ↦ ([], ap lines (first.cut.parts ∙ ap (λ more. first.front ++ more) none ∙ append-nil first.front) ∙ first.line_is)

@@ -52,9 +52,9 @@ pub fn fill_by<A: Responder>(rules: Rules, text: &[u8], room: &mut [u8]) -> Fill
     }
 }
 
-/// The first line of a text, and what comes after it; none where there is no text.
+/// The first line of a text, without its end, and what comes after it; none where there is no text.
 #[tactic(auto, using(crate::proofs::FillingLemmas::first_ended, crate::proofs::FillingLemmas::first_last))]
-fn next_line(text: &[u8]) -> Option<(&[u8], &[u8])>
+pub fn next_line(text: &[u8]) -> Option<(&[u8], &[u8])>
     ensures { MatchOption result (text.now ≡ []) (λ cut. IsFirstLine text.now cut.0.now cut.1.now) }
 {
     if text.is_empty() {
@@ -66,15 +66,14 @@ fn next_line(text: &[u8]) -> Option<(&[u8], &[u8])>
     }
 }
 
-/// Puts a text behind what fills the front of a room, if it fits there.
-fn put_at(room: &mut [u8], filled: usize, text: &[u8]) -> bool
-    requires { filled ≤ length room.old }
+/// Puts a text behind what fills the front of a room, if it fits there: whether it did.
+pub fn put_at(room: &mut [u8], filled: usize, text: &[u8]) -> bool
     ensures put { result ≡ true → (filled + length text.now ≤ length room.old)
         × (room.new ≡ (take filled room.old ++ text.now) ++ drop (filled + length text.now) room.old) }
     ensures left { result ≡ false
         → (length room.old < filled + length text.now) × (room.new ≡ room.old) }
 {
-    if text.len() > room.len() - filled {
+    if filled > room.len() || text.len() > room.len() - filled {
         return false;
     }
     room[filled..filled + text.len()].copy_from_slice(text);

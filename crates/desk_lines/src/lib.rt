@@ -5,7 +5,7 @@
 //! and how many refused, or the [`DeskFault`] for which it gave up. [`desk_text_by`] answers the same lines by any
 //! kind of answer, which is a [`Responder`]: [`Plain`] words, with the reasons behind them ([`Explained`], [`EveryReading`]),
 //! [`Objects`] of JSON, with the reasons in them ([`Reasoned`]). [`numbered_text_by`] puts each answer behind the number of its
-//! line, and [`fill_by`] puts the answers to a text into a room.
+//! line, and [`fill_by`] puts the answers to a text into a room, by [`next_line`] and [`put_at`].
 //! [`replay_text`] does so with the commands of a
 //! script, over a desk of 64 tables.
 //! `waits_answer` answers one hand, as the command `waits` prints it.
@@ -58,7 +58,7 @@ pub use answering::Plain;
 pub use cut::ended_bytes;
 pub use explained::{EveryReading, Explained};
 pub use fault::DeskFault;
-pub use filling::{Filled, fill_by};
+pub use filling::{Filled, fill_by, next_line, put_at};
 pub use line_kind::LineKind;
 pub use numbered::Numbers;
 pub use numbering::numbered_text_by;

@@ -41,7 +41,8 @@ pub struct Outbox {
 impl Outbox {
     ghost use Rattle.desk_lines.specs.Outbox.{HasRoom, HasRoomForLine, HasRoomForText};
 
-    pub(crate) fn new() -> Outbox
+    /// Nothing waits to be written.
+    pub fn new() -> Outbox
         ensures { result.bytes.items ≡ [] }
     {
         Outbox {
@@ -52,13 +53,15 @@ impl Outbox {
         }
     }
 
-    pub(crate) fn as_slice(&self) -> &[u8]
+    /// The answer lines that are here.
+    pub fn as_slice(&self) -> &[u8]
         ensures { result.now ≡ self.now.bytes.items }
     {
         self.bytes.as_slice()
     }
 
-    pub(crate) fn clear(&mut self)
+    /// Drops all that is here.
+    pub fn clear(&mut self)
         ensures { self.new.bytes.items ≡ [] }
     {
         self.bytes.clear();

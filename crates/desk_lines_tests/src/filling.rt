@@ -1,6 +1,6 @@
 //! A text that is answered into rooms of each size.
 use crate::facts::{holds, same_in};
-use desk_lines::{Explained, Filled, Objects, Plain, fill_by};
+use desk_lines::{Explained, Filled, Objects, Plain, fill_by, next_line, put_at};
 use riichi_hand::Rules;
 use std::process::Abort;
 
@@ -78,4 +78,21 @@ fn refuses_lines_that_are_too_long(rt: HostRuntime) {
         &rt,
         fill_by::<Plain>(Rules::One, &text, &mut room).filled == 11,
     );
+}
+
+#[test]
+fn cuts_a_line_off(rt: HostRuntime) {
+    holds(&rt, next_line(b"").is_none());
+    let (line, rest) = (b"a".as_slice(), b"\nb".as_slice());
+    holds(&rt, next_line(b"a\r\n\nb") == Some((line, rest)));
+    holds(&rt, next_line(b"a\r") == Some((line, b"".as_slice())));
+}
+
+#[test]
+fn puts_a_text_where_it_fits(rt: HostRuntime) {
+    let mut room = [7u8; 4];
+    holds(&rt, put_at(&mut room, 1, b"ab"));
+    holds(&rt, !put_at(&mut room, 3, b"cd"));
+    holds(&rt, !put_at(&mut room, 5, b""));
+    holds(&rt, room == [7, b'a', b'b', 7]);
 }
