@@ -3,3 +3,5 @@ pub mod TextLemmas
 pub mod OneAnswer
 pub mod Outcomes
 pub mod AtHand
+pub mod FillLemmas
+pub mod GamePieces

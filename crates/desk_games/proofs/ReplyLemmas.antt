@@ -91,7 +91,7 @@ replies_length given first now (line ∷ lines) replies are =
     let all : length replies ≡ length (are.0 ∷ are.1) = ap length are.3 in
     grind (arith, others, all)
 
-onto_both : (answer : Option (List ℕ)) (answers more : List (List ℕ)) → cons_option answer (answers ++ more) ≡ cons_option answer answers ++ more
+pub onto_both : (answer : Option (List ℕ)) (answers more : List (List ℕ)) → cons_option answer (answers ++ more) ≡ cons_option answer answers ++ more
 onto_both Option.None answers more = refl
 onto_both (Option.Some answer) answers more = refl
 
@@ -106,7 +106,8 @@ answers_last is_numbered number last (next ∷ replies) reply is =
 kinds_last : (replies : List Reply) (reply : Reply) → report_of (map kind_in (replies ++ reply ∷ [])) ≡ report_with (report_of (map kind_in replies)) reply.kind
 kinds_last replies reply = ap report_of (map-append kind_in replies (reply ∷ [])) ∙ report_of_more (map kind_in replies) reply.kind
 
-answers_line : (is_numbered : Bool) (given : Rules) (first old new : GameDesk) (lines answers : List (List ℕ)) (report : DeskReport) (number : ℕ) (line next : List ℕ) (reply : Reply) (kind : LineKind)
+-- one more line is answered
+pub answers_line : (is_numbered : Bool) (given : Rules) (first old new : GameDesk) (lines answers : List (List ℕ)) (report : DeskReport) (number : ℕ) (line next : List ℕ) (reply : Reply) (kind : LineKind)
     → number ≡ length lines + 1 → IsToldAs 4096 line next → AnswersLines is_numbered given first lines answers report old → IsReply given old line reply → kind ≡ reply.kind → new ≡ reply.desk
     → AnswersLines is_numbered given first (lines ++ next ∷ []) (answers ++ answers_in (answer_text (number_if is_numbered number) reply)) (report_with report kind) new
 answers_line is_numbered given first old new lines answers report number line next reply kind counted as_this before is kind_is desk_is =

@@ -7,7 +7,9 @@ use Rattle.riichi_game.specs.Games.{first_progress, after_all}
 use Rattle.riichi_game_text.specs.GameLines.{GameSaid, game_of, hand_word}
 use Rattle.riichi_game_text.specs.TableWords.{IsHandRules}
 use Rattle.desk_lines.specs.declared.report.DeskReport.{DeskReport}
-use Rattle.desk_lines.specs.Telling.{is_refused}
+use Rattle.desk_lines.specs.Filling.{IsCutBehindLine}
+use Rattle.desk_lines.specs.Lines.{lines}
+use Rattle.desk_lines.specs.Telling.{both_reports, is_refused}
 use Rattle.desk_games.specs.Played.{GameSoFar}
 use Rattle.desk_games.specs.Desks.{begun}
 use Rattle.desk_games.specs.Replies.{LineOfGame, Odd, Blank, Begins, Entry, seen_in, Reply, AreReplies}
@@ -22,6 +24,15 @@ abbrev pub AnswersAreOne : Type 0
 AnswersAreOne = (is_numbered : Bool) (given : Rules) (first : GameDesk) (lines one other : List (List ℕ)) (count other_count : DeskReport) (last other_last : GameDesk)
     → AnswersLines is_numbered given first lines one count last → AnswersLines is_numbered given first lines other other_count other_last
     → (one ≡ other) × (count ≡ other_count) × (last ≡ other_last)
+
+-- ---- pieces
+
+-- A text of games that is cut behind a line: what its pieces are answered, one behind the other, is what the whole is answered, and both
+-- are counted so.
+abbrev pub GamesByPieces : Type 0
+GamesByPieces = (given : Rules) (first now last : GameDesk) (text front rest : List ℕ) (one other : List (List ℕ)) (count more : DeskReport) → IsCutBehindLine text front rest
+    → AnswersLines false given first (lines front) one count now → AnswersLines false given now (lines rest) other more last
+    → AnswersLines false given first (lines text) (one ++ other) (both_reports count more) last
 
 -- ---- how far a game has come
 

@@ -48,7 +48,7 @@ impl Games {
     }
 
     /// Takes the next line, and puts its answer.
-    fn take(&mut self, front: Option<u64>, line: &[u8], outbox: &mut Outbox) -> LineKind
+    pub(crate) fn take(&mut self, front: Option<u64>, line: &[u8], outbox: &mut Outbox) -> LineKind
         requires { HasRoomForLine outbox.old }
         ensures given { (self.new.given ≡ self.old.given)
             × (self.new.is_numbered ≡ self.old.is_numbered) }

@@ -3,7 +3,8 @@
 //! [`games_text`] answers the lines that a `desk_io::Source` gives, and writes the answers into a `desk_io::Sink`. It returns a
 //! [`GamesReport`]: how many lines were answered and how many refused, and the [`GameDesk`] behind the last line, or a
 //! [`DeskFault`] for which it gave up. [`games_text_with`] can put each answer behind the number of its line, and
-//! [`games_played`] returns the [`GameDesk`] without any answers.
+//! [`games_played`] returns the [`GameDesk`] without any answers. [`fill_games`] answers a text in memory into a room, from any
+//! line on.
 //!
 //! A [`GameDesk`] is a text of games so far: no game yet, one whose line `game` was refused, or a [`GameAtHand`], with its players,
 //! its rules and how far it has come. A line that is refused holds its game: each line behind it is refused too, until another game
@@ -20,6 +21,7 @@
 #![tactic(auto)]
 
 mod desk;
+mod filling;
 mod game_at_hand;
 mod games;
 pub mod laws;
@@ -30,7 +32,8 @@ mod text;
 mod unwritten;
 
 pub use desk::GameDesk;
-pub use desk_lines::{DeskFault, DeskReport};
+pub use desk_lines::{DeskFault, DeskReport, Filled};
+pub use filling::fill_games;
 pub use game_at_hand::GameAtHand;
 pub use games::Games;
 pub use played::games_played;

@@ -10,6 +10,8 @@ mod facts;
 #[cfg(test)]
 mod failing;
 #[cfg(test)]
+mod filling;
+#[cfg(test)]
 mod lines;
 #[cfg(test)]
 mod pages;
