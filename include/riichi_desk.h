@@ -1,5 +1,5 @@
 /* riichi_desk for C and C++: the answers of the command `line`, a line or many lines a call, many hands or wins a call as arrays,
- * and the ledger of a game of four.
+ * and the ledger of a game of four, as values and as a text.
  *
  * Link with libriichi_desk_c.a and the C library: they run on every processor of x86-64 under Linux. No call keeps anything or takes
  * memory, so any thread may make any of them at any time, where what it fills is its own and its stack has the space that the call
@@ -568,6 +568,33 @@ uint32_t riichi_game_worth(const struct riichi_table *table, const struct riichi
 /* The base points of a hand of so many han and fu, won by RIICHI_RON or RIICHI_TSUMO; 0 where no hand has so many, or `rules` are
  * none. */
 uint32_t riichi_game_base(uint32_t rules, uint32_t by, uint32_t han, uint32_t fu);
+
+/* Answers the lines of a text of games as the command `game` does, from a place on, as many as have room: each answer with a line
+ * feed behind it, and behind the last line what is told of the end of the last game. docs/GAME.md has the lines and their answers.
+ *
+ *   rules     How hands are valued in a game that names no rules: RIICHI_RULES_ONE, RIICHI_RULES_TWO or rules of a house. Under
+ *             any other number nothing is answered.
+ *   text      The whole text, by each call: the library keeps nothing, so a call plays the lines before `from` again.
+ *   from      0, and then what `taken` was set to: how many bytes of the text are answered. It is no place within a line, which
+ *             would be taken for two.
+ *   room      A call stops before the first line whose answer and line feed don't fit, or before the end where that doesn't. A
+ *             room of RIICHI_MOST_ANSWER + 1 bytes always takes one of them further; in a larger one fewer calls play the lines.
+ *   taken     Is set to where the next call goes on, and to `text_len` + 1 where all is told, the end too. Where it is `from` and
+ *             no more than `text_len`, the room is too small, or `rules` neither a profile's number nor rules of a house.
+ *
+ * Returns how many bytes of the room are filled; those behind them stay as they are. From a place behind the text nothing is told.
+ * Each call has some 150 kB on the stack. riichi_desk_portable.c takes texts of 256 KiB at most, and answers nothing of a longer
+ * one.
+ *
+ *     size_t from = 0, start, filled;
+ *     do {
+ *         start = from;
+ *         filled = riichi_game_lines(RIICHI_RULES_ONE, text, length, start, room, sizeof room, &from);
+ *         fwrite(room, 1, filled, stdout);
+ *     } while (from > start && from <= length);
+ */
+size_t riichi_game_lines(
+    uint32_t rules, const uint8_t *text, size_t text_len, size_t from, uint8_t *room, size_t room_len, size_t *taken);
 
 /* The name and version, such as `riichi_desk 0.1.0`, into the room as above. Returns how many bytes it takes. */
 size_t riichi_version(uint8_t *room, size_t room_len);

@@ -1,53 +1,11 @@
 /* fuzz_lines SECONDS SEED FILE: asks the calls for many lines, and that for rows, of random texts, made of the lines of FILE, in
  * rooms of random sizes, and compares each with calls of one line. Ends at the first difference, with the seed that shows it. */
-#include "lent.h"
+#include "random_lines.h"
 #include <riichi_desk.h>
 #include <time.h>
 
 typedef size_t one_call(uint32_t, const uint8_t *, size_t, uint8_t *, size_t);
 typedef size_t many_call(uint32_t, const uint8_t *, size_t, uint8_t *, size_t, size_t *);
-
-static uint8_t *given;
-static size_t given_len, lines_given, *starts;
-
-static void read_lines(const char *path) {
-    FILE *file = fopen(path, "rb");
-    if (!file) { perror(path); exit(2); }
-    given = malloc(1 << 24);
-    given_len = fread(given, 1, 1 << 24, file);
-    fclose(file);
-    starts = malloc((given_len + 1) * sizeof *starts);
-    for (size_t at = 0; at < given_len; lines_given++) {
-        starts[lines_given] = at;
-        uint8_t *feed = memchr(given + at, '\n', given_len - at);
-        at = feed ? (size_t)(feed - given) + 1 : given_len;
-    }
-    starts[lines_given] = given_len;
-    if (lines_given == 0) exit(2);
-}
-
-/* A random line behind `text`, with what ends it: how many bytes. */
-static size_t put_line(uint8_t *text) {
-    size_t length = 0;
-    switch (below(12)) {
-    case 0: break;
-    case 1: length = below(20); memset(text, ' ', length); break;
-    case 2: length = 4090 + below(12); memset(text, below(2) ? '#' : 'w', length); break;
-    case 3: length = below(40); for (size_t i = 0; i < length; i++) text[i] = (uint8_t)random_number(); break;
-    case 4: memcpy(text, "rules 2", length = 7); break;
-    default: {
-        size_t line = below(lines_given);
-        length = starts[line + 1] - starts[line];
-        if (length > 5000) length = 5000;
-        memcpy(text, given + starts[line], length);
-        while (length > 0 && (text[length - 1] == '\n' || text[length - 1] == '\r')) length--;
-        for (size_t n = below(8) == 0 ? 1 + below(3) : 0; n > 0 && length > 0; n--) text[below(length)] = (uint8_t)random_number();
-    }
-    }
-    for (size_t n = below(6) == 0 ? 1 + below(2) : 0; n > 0; n--) text[length++] = '\r';
-    text[length++] = '\n';
-    return length;
-}
 
 /* What one line is answered, with its line feed, and what is behind it where it is explained. */
 static size_t told_of(int kind, uint32_t rules, const uint8_t *line, size_t length, uint8_t *told) {
@@ -69,7 +27,7 @@ static void try_text(struct lender *texts, struct lender *rooms) {
     static many_call *const calls[4] = {
         riichi_answer_lines, riichi_json_lines, riichi_explain_lines, riichi_explain_json_lines};
     size_t length = 0;
-    for (size_t n = below(12); n > 0; n--) length += put_line(made + length);
+    for (size_t n = below(12); n > 0; n--) length += put_line(made + length, "rules 2");
     if (length > 0 && below(3) == 0) length--;
     int kind = (int)below(4);
     uint32_t rules = random_rules();
@@ -102,7 +60,7 @@ static void try_rows(struct lender *lenders) {
     int64_t offsets[16] = {0};
     size_t length = 0, rows = below(12), left = below(4) == 0 ? below(5) : 0;
     for (size_t i = 0; i < rows; i++) {
-        length += put_line(made + length);
+        length += put_line(made + length, "rules 2");
         if (below(8)) length--;
         offsets[i + 1] = (int64_t)length;
     }

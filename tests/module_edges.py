@@ -31,7 +31,9 @@ def try_lines() -> None:
 
 
 def try_rules() -> None:
-    for call, given in (riichi_desk.text, WAITS), (riichi_desk.explain, WAITS), (riichi_desk.texts, [WAITS]), (riichi_desk.lines, b""), (riichi_desk.answers, []):
+    one = {riichi_desk.text: WAITS, riichi_desk.explain: WAITS}
+    many = {riichi_desk.texts: [WAITS], riichi_desk.lines: b"", riichi_desk.answers: [], riichi_desk.game: ""}
+    for call, given in (one | many).items():
         for rules in -1, 0, 3, 2**32 - 1, 2**32, 2**32 + 1, 2**64 + 1:
             try:
                 call(given, rules)
@@ -53,6 +55,18 @@ def try_values() -> None:
     assert found == [riichi_desk.answer(it) for it in lines] == pickle.loads(pickle.dumps(found))
     assert len({*found, *found}) == len(lines)
     assert found[1].discards["8p"].kinds == {"2p": 4, "5p": 4}
+
+
+def try_games() -> None:
+    text = "game 東 南 西 北\r\nron 南 from 西 1.30\nend\ngame"
+    told = riichi_desk.game(text)
+    assert told.splitlines()[:3:2] == ["game 東 南 西 北 start 30000", "over"] and told.endswith("30000\n")
+    for each in text.encode(), bytearray(text.encode()), memoryview(text.encode()), text + "\n":
+        assert riichi_desk.game(each) == told, each
+    assert riichi_desk.game(b"") == "" and riichi_desk.game("\n# a note\n") == "" and riichi_desk.game(b"\xff") == "refused G1\n"
+    hand = "game\nron 1 from 2 0m5m40m345p67s99s on=5s\n"
+    assert riichi_desk.game(hand, 2) == riichi_desk.game(hand.replace("game", "game rules=2"))
+    assert riichi_desk.game(f"{text}\n" * 2500).count("over") == 2500  # more than a room holds
 
 
 def try_many(text: bytes) -> None:
@@ -79,5 +93,6 @@ if __name__ == "__main__":
     try_lines()
     try_rules()
     try_values()
+    try_games()
     try_many(front)
     print("all right")

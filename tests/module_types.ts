@@ -1,4 +1,4 @@
-import { answer, answerLines, answers, explain, Game, table, text, type Answer, type Outcome } from "riichi_desk";
+import { answer, answerLines, answers, explain, Game, game, table, text, type Answer, type Outcome } from "riichi_desk";
 
 function told(it: Answer): string {
   switch (it.answer) {
@@ -18,7 +18,8 @@ const outcomes: Outcome[] = [
   { kind: "tsumo", winner: 0, value: { yakuman: 1, liable: 3 } },
   { kind: "end" },
 ];
-const game = new Game({ ...table("league"), bust: true });
-for (const outcome of outcomes) game.add(outcome);
-const needed = game.need(0, 2).off[1]?.strictly?.discarder ?? 0;
-console.log(game.state.round, game.changes[0], game.moves[0]?.why, game.final()[3].total + needed, game.undo()?.kind, game.isOver);
+const played = new Game({ ...table("league"), bust: true });
+for (const outcome of outcomes) played.add(outcome);
+const needed = played.need(0, 2).off[1]?.strictly?.discarder ?? 0;
+console.log(played.state.round, played.changes[0], played.moves[0]?.why, played.final()[3].total + needed, played.undo()?.kind, played.isOver);
+console.log(game("game\ndraw\n").length, game(new Uint8Array(), 2).length);

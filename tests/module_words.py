@@ -3,9 +3,10 @@
 
 import doctest
 
-import riichi_desk.game
+import riichi_desk.games
+import riichi_desk.ledger
 import riichi_desk.records
 import riichi_desk.values
 
-for module in riichi_desk.game, riichi_desk.records, riichi_desk.values:
+for module in riichi_desk.games, riichi_desk.ledger, riichi_desk.records, riichi_desk.values:
     doctest.testmod(module)

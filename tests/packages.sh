@@ -15,6 +15,10 @@ head -n 2000 "$shelf/lines" > "$shelf/few"
 # the few, and among them a line that is longer than any room
 { cat "$shelf/few"; printf '%0200000d\n' 0; head -n 9 "$shelf/few"; } > "$shelf/long"
 "$program" line < "$shelf/long" > "$shelf/long-wanted"
+# a text of games that takes many calls
+for copy in {1..150}; do cat examples/games/evening.game; done > "$shelf/games"
+for copy in {1..150}; do cat examples/games/evening.answers; done > "$shelf/games-wanted"
+by_games='import riichi_desk, sys; sys.stdout.buffer.write(riichi_desk.game(sys.stdin.buffer.read()).encode())'
 told 'mixed lines' 20000 "$(wc -l < "$shelf/lines")"
 # same NAME WANTED WORDS..: WORDS answer the mixed lines as the file WANTED, or the lines whose answers it has by its name
 same() {
@@ -74,6 +78,8 @@ cc -O1 -g -fsanitize=address,undefined -Iinclude tests/fuzz_arrays.c "$archive" 
 told 'hands as arrays' '16 calls of each, no difference' "$("$shelf/arrays" 0 1 2>&1)"
 cc -O1 -g -fsanitize=address,undefined -Iinclude tests/fuzz_lines.c "$archive" -o "$shelf/rows"
 told 'texts and rows at random' '256 texts, no difference' "$("$shelf/rows" 0 1 "$shelf/few" 2>&1)"
+cc -O1 -g -fsanitize=address,undefined -Iinclude tests/fuzz_games.c "$archive" -o "$shelf/games-tried"
+told 'texts of games at random' '256 texts, no difference' "$("$shelf/games-tried" 0 1 "$shelf/games" 2>&1)"
 
 # the wheel, in a new environment
 wheel=$(echo "$packages"/riichi_desk-*x86_64.whl)
@@ -84,6 +90,7 @@ if [ -f "$wheel" ] && /usr/bin/python3 -m venv "$shelf/venv" > /dev/null 2>&1 &&
   same 'the wheel, values' wanted "$python" tests/typed_answers.py
   told 'the wheel, arrays' 'all right' "$("$python" tests/array_answers.py 2>&1)"
   told 'the wheel, games' 'no difference' "$("$python" tests/game_answers.py 2>&1 | sed 's/.* deals, //')"
+  same 'the wheel, a text of games' games-wanted "$python" -c "$by_games"
   told 'its edges' 'all right' "$("$python" tests/module_edges.py "$shelf/lines" 2>&1)"
   told 'its licences' "$(unzip -l "$wheel" | grep -c 'licenses/.*LICENSE')" "$(tar -tf "$packages/riichi_desk-$version.crate" | grep -c LICENSE)"
   if has mypy; then
@@ -102,6 +109,7 @@ if [ -f "$crate" ] && has cargo; then
   (cd "$shelf/riichi_desk-$version" && cargo build -q --release --offline --example line --target-dir "$shelf/target") > "$room/said" 2>&1
   same 'the crate, a call a line' wanted "$shelf/target/release/examples/line"
   same 'the crate, a call a text' wanted "$shelf/target/release/examples/line" text
+  same 'the crate, a text of games' games-wanted "$shelf/target/release/examples/line" game
   told 'the words of the crate' 0 "$(cd "$shelf/riichi_desk-$version" && cargo test -q --release --offline --doc --target-dir "$shelf/target" > "$room/said" 2>&1; echo $?)"
 else
   skip 'the crate' cargo
@@ -126,6 +134,10 @@ if [ -f "$script" ] && has npm node; then
     console.log(text("win 123406789m22s34p on=2p by=ron seat=S round=E", house({ redFives: true })));')"
   told 'Node: a first line of rules' "$(cat examples/rules-two.answers)" "$("$command" line < examples/rules-two.lines)"
   cp tests/game_answers.mjs "$shelf/node"
+  same 'Node: a text of games' games-wanted env -C "$shelf/node" node --input-type=module -e '
+    import { readFileSync } from "node:fs";
+    import { game } from "riichi_desk";
+    process.stdout.write(game(readFileSync(0)));'
   told 'Node: games' 'all right' "$(cd "$shelf/node" && node game_answers.mjs 2>&1)"
   if has tsc; then
     cp tests/module_types.ts "$shelf/node"
@@ -148,13 +160,19 @@ if [ -f "$portable" ]; then
   told 'one file of C: hands as arrays' '16 calls of each, no difference' "$("$shelf/arrays-portable" 0 1 2>&1)"
   cc -O1 -Iinclude tests/fuzz_lines.c "$shelf/portable.o" -o "$shelf/rows-portable"
   told 'one file of C: texts and rows at random' '256 texts, no difference' "$("$shelf/rows-portable" 0 1 "$shelf/few" 2>&1)"
+  cc -O1 -Iinclude tests/fuzz_games.c "$shelf/portable.o" -o "$shelf/games-tried-portable"
+  told 'one file of C: texts of games at random' '256 texts, no difference' "$("$shelf/games-tried-portable" 0 1 "$shelf/games" 2>&1)"
   cc -O1 -Iinclude tests/games.c "$shelf/portable.o" -o "$shelf/games-portable"
   told 'one file of C: games at random' 'no difference' "$("$shelf/games-portable" 7 20 2>&1 | sed 's/.* outcomes, //')"
+  cc -O1 -Iinclude tests/game_lines.c "$shelf/portable.o" -o "$shelf/game-lines-portable"
+  told 'one file of C: a text of games by pieces' 'all right' "$("$shelf/game-lines-portable" examples/games/evening.game examples/games/evening.answers 2>&1)"
   cc -shared "$shelf/portable.o" -o "$shelf/portable.so"
   told 'one file of C: its calls' "$(grep -oE '\briichi_[a-z_]+\(' include/riichi_desk.h | tr -d '(' | sort -u | xargs)" \
     "$(nm -D --defined-only "$shelf/portable.so" | sed -n 's/.* T \(riichi_.*\)/\1/p' | sort | xargs)"
   told 'one file of C: arrays in Python' 'all right' \
     "$(RIICHI_DESK=$shelf/portable.so PYTHONPATH=packaging/python/src /usr/bin/python3 -B tests/array_answers.py 2>&1)"
+  same 'one file of C: a text of games in Python' games-wanted \
+    env RIICHI_DESK="$shelf/portable.so" PYTHONPATH=packaging/python/src /usr/bin/python3 -B -c "$by_games"
   same 'one file of C: a long line' long-wanted "$shelf/portable" line
   same 'one file of C: line --json' json "$shelf/portable" line --json
   same 'one file of C: explain' explained "$shelf/portable" explain

@@ -52,6 +52,11 @@ else
 fi
 cc -O1 -g -Wall -Wextra -std=c99 -pedantic -fsanitize=address,undefined -Iinclude tests/games.c "$archive" -o "$made/games"
 told 'games at random' 'no difference' "$("$made/games" 7 200 2>&1 | sed 's/.* outcomes, //')"
+cc -O1 -g -Wall -Wextra -std=c99 -pedantic -fsanitize=address,undefined -Iinclude tests/game_lines.c "$archive" -o "$made/game_lines"
+told 'a text of games by pieces' 'all right' "$("$made/game_lines" examples/games/evening.game examples/games/evening.answers 2>&1)"
+# games_by_python: answers a text of games from standard input
+games_by_python() { by_python -c 'import riichi_desk, sys; sys.stdout.buffer.write(riichi_desk.game(sys.stdin.buffer.read()).encode())'; }
+told 'a text of games by Python' "$(sha256sum < examples/games/evening.answers)" "$(games_by_python < examples/games/evening.game | sha256sum)"
 told 'games by Python' 'no difference' "$(by_python tests/game_answers.py 2>&1 | sed 's/.* deals, //')"
 told 'what the library asks of the C library' 'memcpy memmove memset' "$(nm -u "$archive" | sed -n 's/^ *U //p' | sort -u | xargs)"
 
@@ -63,6 +68,7 @@ if command -v cargo > /dev/null; then
   "$made/bench/release/bench" games 2000 17 > "$made/games.text"
   told 'two thousand random texts of games, by plain Rust' "$("$made/bench/release/bench" ledger < "$made/games.text" | sha256sum)" \
     "$("$program" game < "$made/games.text" | sha256sum)"
+  told 'two thousand random texts of games, by Python' "$("$program" game < "$made/games.text" | sha256sum)" "$(games_by_python < "$made/games.text" | sha256sum)"
 else
   skip 'docs/GAME.md' cargo
 fi

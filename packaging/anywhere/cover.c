@@ -5,7 +5,7 @@ OF_THREAD int is_ready;
 
 enum { GIVEN = PAGES * PAGE, TOLD = GIVEN + PAGES_GIVEN * PAGE, TAKEN = TOLD + PAGES_TOLD * PAGE - 8 };
 /* A line of more than 4096 bytes is refused whatever follows. */
-enum { MOST_LINE = 4200, MOST_TEXT = TOLD - GIVEN, ROOM = TAKEN - TOLD };
+enum { MOST_LINE = 4200, MOST_TEXT = PAGE, ROOM = TAKEN - TOLD };
 
 static uint8_t *memory(void) {
     if (!is_ready) {

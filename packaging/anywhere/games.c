@@ -1,7 +1,7 @@
 
 /* The calls of riichi_desk.h for a game of four. */
 
-enum { TABLE = GIVEN, PROGRESS = GIVEN + 64, ASKED = GIVEN + 128, MOST_OUTCOMES = 240 };
+enum { TABLE = GIVEN, PROGRESS = GIVEN + 64, ASKED = GIVEN + 128, MOST_OUTCOMES = 240, MOST_GAMES = TOLD - GIVEN };
 enum { TOLD_MOVES = TOLD + 64 };
 
 static uint8_t *lend_table(const struct riichi_table *table) {
@@ -90,4 +90,24 @@ uint32_t riichi_game_worth(const struct riichi_table *table, const struct riichi
 uint32_t riichi_game_base(uint32_t rules, uint32_t by, uint32_t han, uint32_t fu) {
     memory();
     return Z_deskZ_riichi_game_base(&module, rules, by, han, fu);
+}
+
+/* (the whole text by each call: one that is longer than its room has no answer here) */
+size_t riichi_game_lines(
+    uint32_t rules, const uint8_t *text, size_t text_len, size_t from, uint8_t *room, size_t room_len, size_t *taken) {
+    uint8_t *own = memory();
+    uint64_t start, place = from;
+    size_t filled = 0;
+    if (text_len <= MOST_GAMES) memcpy(own + GIVEN, text, text_len);
+    do {
+        start = place;
+        if (start > text_len || text_len > MOST_GAMES) break;
+        size_t left = lesser(room_len - filled, ROOM);
+        size_t more = (size_t)Z_deskZ_riichi_game_lines(&module, rules, GIVEN, text_len, start, TOLD, left, TAKEN);
+        memcpy(room + filled, own + TOLD, more);
+        memcpy(&place, own + TAKEN, sizeof place);
+        filled += more;
+    } while (place > start);
+    *taken = (size_t)place;
+    return filled;
 }

@@ -32,7 +32,7 @@
 #define WASM_RT_USE_STACK_DEPTH_COUNT 0
 
 /* Behind the module's own pages lie those for what a call is given, and those for its answer. */
-enum { PAGE = 65536, PAGES = @pages@, PAGES_GIVEN = 1, PAGES_TOLD = 4, SPACE = (PAGES + PAGES_GIVEN + PAGES_TOLD) * PAGE };
+enum { PAGE = 65536, PAGES = @pages@, PAGES_GIVEN = 4, PAGES_TOLD = 4, SPACE = (PAGES + PAGES_GIVEN + PAGES_TOLD) * PAGE };
 
 typedef struct { uint8_t data[SPACE]; uint32_t size; } wasm_rt_memory_t;
 

@@ -25,8 +25,22 @@ export const calls = instance.exports;
 // What a call is given lies here, and what it tells there.
 export const LINE = calls.memory.grow(5) * PAGE;
 export const ROOM = LINE + MOST_TEXT;
-export const memory = new Uint8Array(calls.memory.buffer); // a call takes no memory, so it stays this one
-export const view = new DataView(calls.memory.buffer);
+// A call takes no memory; a text that is longer than any before makes it longer.
+export let memory = new Uint8Array(calls.memory.buffer);
+export let view = new DataView(calls.memory.buffer);
+let wide = { at: LINE, most: MOST_TEXT };
+
+// Where a text of any length lies, for a call that is given the whole of it.
+export function lend(bytes) {
+  if (bytes.length > wide.most) {
+    const pages = Math.ceil(bytes.length / PAGE);
+    wide = { at: calls.memory.grow(pages) * PAGE, most: pages * PAGE };
+    memory = new Uint8Array(calls.memory.buffer);
+    view = new DataView(calls.memory.buffer);
+  }
+  memory.set(bytes, wide.at);
+  return wide.at;
+}
 
 // (a blank line has no answer under any rules, and under no rules it is refused)
 export function tested(rules) {

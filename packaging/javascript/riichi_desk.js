@@ -1,12 +1,11 @@
 // The proved library for browsers and for Node: import { answer } from "riichi_desk". The modules lie beside this file.
 
-import { calls, LINE, memory, MOST_ANSWER, MOST_TEXT, ROOM, tested, view } from "./module.js";
+import { calls, lend, LINE, memory, MOST_ANSWER, MOST_TEXT, ROOM, tested, view } from "./module.js";
 
 export { Game, HandRefused, OutcomeRefused, RulesRefused, table } from "./game.js";
 
 const MOST_LINE = 4200; // a line of more than 4096 bytes is refused whatever follows
 const TAKEN = ROOM + MOST_ANSWER;
-const lineRoom = memory.subarray(LINE, LINE + MOST_LINE);
 const encoder = new TextEncoder();
 const decoder = new TextDecoder();
 
@@ -17,20 +16,22 @@ function read(needed) {
   return decoder.decode(memory.subarray(ROOM, ROOM + Number(needed)));
 }
 
+const lineRoom = () => memory.subarray(LINE, LINE + MOST_LINE);
+
 // How many bytes of a line lie in its room: a text or bytes, without a line feed at its end and a carriage return before that.
 function put(line) {
-  if (typeof line === "string") return encoder.encodeInto(line.replace(/\r?\n?$/, ""), lineRoom).written;
+  if (typeof line === "string") return encoder.encodeInto(line.replace(/\r?\n?$/, ""), lineRoom()).written;
   let end = line.length;
   if (line[end - 1] === 10) end--;
   if (line[end - 1] === 13) end--;
   const front = line.subarray(0, Math.min(end, MOST_LINE));
-  lineRoom.set(front);
+  lineRoom().set(front);
   return front.length;
 }
 
 // The number of the rules that a text names; 0 where it names none.
 function numberOf(text) {
-  const { read: taken, written } = encoder.encodeInto(text, lineRoom);
+  const { read: taken, written } = encoder.encodeInto(text, lineRoom());
   return taken === text.length ? calls.riichi_rules(AT[0], BigInt(written), BigInt(TAKEN)) : 0;
 }
 
@@ -119,6 +120,17 @@ export function jsonLines(text, rules = 1) {
 
 export function explainLines(text, rules = 1) {
   return askLines(calls.riichi_explain_lines, text, rules);
+}
+
+export function game(text, rules = 1) {
+  tested(rules);
+  const given = typeof text === "string" ? encoder.encode(text) : text;
+  const [at, length] = [lend(given), given.length].map(BigInt);
+  const pieces = [];
+  for (let from = 0n; from <= length; from = view.getBigUint64(TAKEN, true)) {
+    pieces.push(read(calls.riichi_game_lines(rules, at, length, from, AT[1], AT[2], BigInt(TAKEN))));
+  }
+  return pieces.join("");
 }
 
 export function version() {

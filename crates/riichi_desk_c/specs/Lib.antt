@@ -8,3 +8,4 @@ pub mod JsonReasons
 pub mod RulesRead
 pub mod GameTables
 pub mod Games
+pub mod GameLines

@@ -10,6 +10,7 @@ ghost use Rattle.riichi_desk_c.specs.Replies.{reply_to};
 
 mod arrays;
 mod game_hands;
+mod game_lines;
 mod game_rows;
 mod games;
 mod json;
@@ -24,6 +25,7 @@ mod wins;
 pub use arrays::{riichi_discards, riichi_shantens, riichi_shapes, riichi_waits_of};
 use desk_core::{answer_text, judge};
 pub use game_hands::{riichi_game_base, riichi_game_needs, riichi_game_worth};
+pub use game_lines::riichi_game_lines;
 pub use games::{
     riichi_game_after, riichi_game_finals, riichi_game_first, riichi_game_moves, riichi_game_table,
     riichi_game_table_fault,

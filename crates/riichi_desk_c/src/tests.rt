@@ -1,4 +1,5 @@
 mod facts;
+mod game_lines;
 mod games;
 mod rules;
 mod wins;

@@ -108,5 +108,14 @@ extern "C" {
         hand: *const Win,
         worth: *mut WorthRow,
     ) -> u32;
+    pub fn riichi_game_lines(
+        rules: u32,
+        text: *const u8,
+        text_len: usize,
+        from: usize,
+        room: *mut u8,
+        room_len: usize,
+        taken: *mut usize,
+    ) -> usize;
     pub fn riichi_game_base(rules: u32, by: u32, han: u32, fu: u32) -> u32;
 }

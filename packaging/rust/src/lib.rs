@@ -10,7 +10,8 @@
 //! }
 //! ```
 //!
-//! Many hands without text are answered by [`arrays`], and [`game`] keeps the ledger of a game of four.
+//! Many hands without text are answered by [`arrays`]. The module [`mod@game`] keeps the ledger of a game of four, and the function
+//! [`game()`] answers a text of games.
 //!
 //! A line is a `&str` or bytes, without its line feed and a carriage return before that. Every call may be made by any thread.
 use std::str;
@@ -117,6 +118,33 @@ pub fn answer_lines(text: impl AsRef<[u8]>, rules: Rules) -> String {
 /// The same, each answer as one object of JSON.
 pub fn json_lines(text: impl AsRef<[u8]>, rules: Rules) -> String {
     answered(calls::riichi_json_lines, calls::MOST_JSON, text.as_ref(), rules)
+}
+
+/// The answers to a whole text of games, as the command `game` writes them: a line for each deal, and behind the last line of
+/// each game its places and final points, or how it stands. GAME.md of the repository has the lines. The rules are those for the
+/// hands of a game that names none.
+///
+/// ```
+/// use riichi_desk::{game, Rules};
+/// let told = game("game Anna Bo Cyd Dee\nron Bo from Cyd 1.30\n", Rules::One);
+/// assert_eq!(told.lines().last(), Some("stands east 2 counters 0 sticks 0 points 30000 31000 29000 30000"));
+/// ```
+pub fn game(text: impl AsRef<[u8]>, rules: Rules) -> String {
+    let (text, mut told, mut from) = (text.as_ref(), Vec::new(), 0);
+    while from <= text.len() {
+        let filled = told.len();
+        told.resize(filled + text.len() + calls::MOST_ANSWER + 1, 0);
+        let (room, mut taken) = (&mut told[filled..], from);
+        // SAFETY: as in `answered`.
+        let more = unsafe {
+            let (text_len, room_len) = (text.len(), room.len());
+            calls::riichi_game_lines(rules.number(), text.as_ptr(), text_len, from, room.as_mut_ptr(), room_len, &mut taken)
+        };
+        assert!(taken > from, "this library takes no text of games of so many bytes");
+        told.truncate(filled + more);
+        from = taken;
+    }
+    String::from_utf8(told).expect("answers are UTF-8")
 }
 
 /// The name and version of the library.

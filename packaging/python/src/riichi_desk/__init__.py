@@ -1,7 +1,8 @@
 """What a hand of riichi mahjong is worth and why, its waits, and how far it is from a win. The answers are proved.
 
 One line a call: `text`, `answer`, `json`, `explain`, `why`. Many: `texts`, `answers`, `lines`. Many hands without text: `shanten`,
-`shapes`, `discards`, `waits`, over buffers of counts; many wins: `wins`. A game of four, deal by deal: `Game`. The package has the shared library inside; RIICHI_DESK in the environment names another one.
+`shapes`, `discards`, `waits`, over buffers of counts; many wins: `wins`. A game of four, deal by deal: `Game`; as a text: `game`.
+The package has the shared library inside; RIICHI_DESK in the environment names another one.
 """
 
 from __future__ import annotations
@@ -9,9 +10,10 @@ from __future__ import annotations
 import ctypes
 
 from .arrays import NO_HAND, NO_WAITS, Discards, Shapes, ankan, chi, discards, kan, pon, shanten, shapes, waits
-from .game import Game, table
 from .game_values import Abort, Chombo, Draw, End, Fault, Final, HandRefused, HanFu, Liable, LimitHand, Move, Need, Needs, Outcome
 from .game_values import OutcomeRefused, Paid, Penalty, Ron, RulesRefused, Stands, State, TableRules, Tsumo, Value, Yakuman
+from .games import game
+from .ledger import Game, table
 from .library import CALLS, ROOMS
 from .records import answer, answers, explain, json, lines, text, texts, why
 from .rules import Rules
@@ -24,7 +26,7 @@ __all__ = [
     *["NO_HAND", "NO_WAITS", "Discards", "Shapes", "discards", "shanten", "shapes", "waits"],
     *["ankan", "chi", "kan", "pon"],
     *["NO_WIN", "NO_YAKU", "WON", "Score", "Win", "wins"],
-    *["Game", "TableRules", "State", "table"],
+    *["Game", "TableRules", "State", "game", "table"],
     *["Abort", "Chombo", "Draw", "End", "Outcome", "Penalty", "Ron", "Stands", "Tsumo"],
     *["HanFu", "Liable", "LimitHand", "Value", "Yakuman"],
     *["Final", "Move", "Need", "Needs", "Paid"],

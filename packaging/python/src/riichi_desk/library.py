@@ -27,6 +27,7 @@ _ARGUMENTS: dict[str, list[Any]] = {
     "riichi_discards": [_AT, _SIZE] * 7,
     "riichi_wins": [_RULES, *[_AT, _SIZE] * 2],
     "riichi_game_after": [_AT, _AT, _AT, _SIZE, _AT],
+    "riichi_game_lines": [_RULES, ctypes.c_char_p, _SIZE, _SIZE, _AT, _SIZE, ctypes.POINTER(_SIZE)],
 }
 _OF_GAMES: dict[str, list[Any]] = {
     "riichi_game_table": [_WORD, _AT],
@@ -57,10 +58,14 @@ class _Rooms(threading.local):
 ROOMS = _Rooms()
 
 
+def encoded(text: Line) -> bytes:
+    """The bytes of a line or a text, as they are given."""
+    return text.encode("utf-8", "surrogateescape") if isinstance(text, str) else bytes(memoryview(text))
+
+
 def raw_bytes_of(line: Line) -> bytes:
     """The bytes of a line without its line feed."""
-    given = line.encode("utf-8", "surrogateescape") if isinstance(line, str) else bytes(memoryview(line))
-    return given.removesuffix(b"\n")
+    return encoded(line).removesuffix(b"\n")
 
 
 def bytes_of(line: Line) -> bytes:
