@@ -583,7 +583,7 @@ uint32_t riichi_game_base(uint32_t rules, uint32_t by, uint32_t han, uint32_t fu
  *             no more than `text_len`, the room is too small, or `rules` neither a profile's number nor rules of a house.
  *
  * Returns how many bytes of the room are filled; those behind them stay as they are. From a place behind the text nothing is told.
- * Each call has some 150 kB on the stack. riichi_desk_portable.c takes texts of 256 KiB at most, and answers nothing of a longer
+ * Each call has some 100 kB on the stack. riichi_desk_portable.c takes texts of 256 KiB at most, and answers nothing of a longer
  * one.
  *
  *     size_t from = 0, start, filled;

@@ -1,7 +1,7 @@
 // game_answers.mjs: keeps games by the package for JavaScript, and compares what is told with the worked rows of docs/GAME.md.
 // It lies beside the package that is installed. Ends with `all right`.
 import assert from "node:assert/strict";
-import { Game, HandRefused, house, OutcomeRefused, RulesRefused, table } from "riichi_desk";
+import { Game, game as gameText, HandRefused, house, OutcomeRefused, RulesRefused, table, text } from "riichi_desk";
 
 const yaku = (han, fu) => ({ han, fu });
 const stands = (round, dealer, counters, sticks, ...points) => ({ kind: "stands", state: { points, round, dealer: dealer - 1, counters, sticks } });
@@ -80,4 +80,12 @@ assert.deepEqual(needs.off[1].strictly.hands, [yaku(1, 110)]);
 assert.deepEqual(table("online").uma, [20000, 10000, -10000, -20000]);
 assert.equal(new Game(table("league")).state.points[0], 25000);
 for (const wrong of [{ start: 50 }, { uma: [1000, 0, 0, 0] }, { ties: "both" }]) assert.throws(() => new Game(wrong), RulesRefused);
+// texts of games: one that is longer than any before has the memory made longer, and a line is answered behind it
+const stood = "stands east 2 counters 1 sticks 0 points 30000 30000 30000 30000";
+assert.equal(gameText("game A B C D\ndraw\n").split("\n")[2], stood);
+assert.equal(gameText(new TextEncoder().encode("game 東 南 西 北")).split("\n")[0], "game 東 南 西 北 start 30000");
+assert.equal(gameText("game\ndraw\n".repeat(20000)).split("\n").filter((it) => it === stood).length, 20000);
+assert.equal(text("waits 1112345678999m"), "waits 123456789m");
+assert.deepEqual([gameText(""), gameText("# a note\n", 2), gameText("draw", house())], ["", "", "refused G2\n"]);
+assert.throws(() => gameText("game", 3), RangeError);
 console.log("all right");
