@@ -89,14 +89,14 @@ begin_reply form now (Some said) = record {
   desk = begun_desk (Some said);
 }
 
-abbrev pub answer_by : GamesForm → GameStep → Outcome → Option (List ℕ)
-answer_by form step (Penalty player points) = Some (penalty_text (of_player step.names player) points)
-answer_by form step End = said_end form step
-answer_by form step other = Some (deal_text step.before.state step.after.state.points ++ below_deal form step)
+abbrev pub answer_to_outcome : GamesForm → GameStep → Outcome → Option (List ℕ)
+answer_to_outcome form step (Penalty player points) = Some (penalty_text (of_player step.names player) points)
+answer_to_outcome form step End = said_end form step
+answer_to_outcome form step other = Some (deal_text step.before.state step.after.state.points ++ below_deal form step)
 
 -- the answer to an outcome by how far the game had come before it and has come after it, with what stands below it
 abbrev pub outcome_answer : GamesForm → GameStep → Option (List ℕ)
-outcome_answer form step = answer_by form step step.outcome
+outcome_answer form step = answer_to_outcome form step step.outcome
 
 abbrev pub step_of : GameSoFar → Outcome → Progress → GameStep
 step_of game outcome after = record {

@@ -114,7 +114,8 @@ fn answer_alone(games: &mut Games, line: &[u8], outbox: &mut Outbox) -> LineKind
 /// Puts what is told behind the last line of a text behind what fills the front of a room, if it fits there: the bytes that it
 /// takes.
 fn fill_end(desk: &GameDesk, room: &mut [u8], filled: usize, outbox: &mut Outbox) -> Option<usize>
-    ensures { FillsEnd (with_line_feed (told_at_end Answers desk.now)) filled room.old room.new result }
+    ensures { FillsEnd (with_line_feed (told_at_end Answers desk.now))
+        filled room.old room.new result }
 {
     outbox.clear();
     desk.put_end(GamesForm::Answers, outbox);
