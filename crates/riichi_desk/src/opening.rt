@@ -34,9 +34,17 @@ impl Opening {
             ≡ spec.is_game_by self.old.bytes.items (self.old.bytes.items ++ read.now) }
     {
         let was_known = begins_game(self.bytes.as_slice());
-        let wanted = self.bytes.remaining_capacity().min(read.len());
-        let _ = self.bytes.try_extend_from_slice(&read[..wanted]);
+        self.add(read);
         !was_known && begins_game(self.bytes.as_slice())
+    }
+
+    /// Keeps of what is read as much as belongs to the first bytes.
+    #[tactic(auto, using(crate::proofs::OpeningLemmas::front_kept))]
+    fn add(&mut self, read: &[u8])
+        ensures { self.new.bytes.items ≡ take FRONT (self.old.bytes.items ++ read.now) }
+    {
+        let wanted = self.bytes.remaining_capacity().min(read.len());
+        self.bytes.try_extend_from_slice(&read[..wanted]).unwrap();
     }
 }
 
