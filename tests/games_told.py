@@ -122,7 +122,7 @@ def try_keys() -> None:
     page = (TOP / "docs/GAME.md").read_text()
     games, wins = ((TOP / "examples/games" / f"four-tables.{it}").read_text() for it in ("game", "lines"))
     wanted = [f"{len(games.splitlines())} lines and {len(games)} keys", f"are {len(wins)} keys"]
-    answers = answered(wins, "line").splitlines()[:-1]
+    answers = answered(wins, "line", "--file").splitlines()[:-1]
     holds = all(it in page for it in wanted) and len(answers) == len(wins.splitlines()) and all(it.startswith("won ") for it in answers)
     counts["passed" if holds else "failed"] += 1
     if not holds:

@@ -574,7 +574,7 @@ final 1 Dee points 30000 bonus 0.0 penalty 0 total 0.0
 # read as record lines, such a text is answered as one, and said to be one of games
 note='the first line begins a game of four players; `riichi_desk game` reads such a text'
 row 1 $'refused H2\nrefused H2' "standard input: $note" line
-row 1 $'refused H2\nrefused H2' "good.game: $note" score "$room/good.game"
+row 1 $'table 0\nrefused H2\nrefused H2' "good.game: $note" score "$room/good.game"
 told 'a text of games is said to be one once' 1 "$("$program" line --file "$room/good.game" 2>&1 > /dev/null | grep -c "$note")"
 printf 'games Anna\n' > "$room/input"
 told 'another word is no game' 0 "$("$program" line < "$room/input" 2>&1 > /dev/null | grep -c "$note")"
