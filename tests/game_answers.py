@@ -55,6 +55,8 @@ class Kept:
 
     def __init__(self, names: list[str], rules: TableRules) -> None:
         self.names, self.game, self.is_refused = names, Game(rules), False
+        # whether the last accepted line can be taken back
+        self.has_last = False
 
     def player(self, name: str) -> int:
         found = [it for it in self.names if it == name] or [it for it in self.names if it.startswith(name)]
@@ -126,12 +128,26 @@ class Kept:
         except HandRefused as refused:
             return [f"refused G7 {refused.answer}"]
         self.adds_up()
+        self.has_last = True
         if isinstance(outcome, End):
             return []
         if isinstance(outcome, Penalty):
             return [f"penalty {self.names[outcome.player]} {outcome.points}"]
         changes = " ".join(f"{it:+}" if it else "0" for it in self.game.changes)
         return [f"{table_of(before)} changes {changes} points {' '.join(map(str, self.game.state.points))}"]
+
+    def undo(self) -> list[str]:
+        """Takes the refused lines back, or the last accepted one, once."""
+        if not self.is_refused:
+            if not self.has_last:
+                return ["refused G4"]
+            self.game.undo()
+            self.has_last = False
+        self.is_refused = False
+        return [self.stands()]
+
+    def stands(self) -> str:
+        return f"stands {table_of(self.game.state)} points {' '.join(map(str, self.game.state.points))}"
 
     def adds_up(self) -> None:
         """The moves are the changes; and taken back and made again, the outcome leaves the same."""
@@ -148,7 +164,7 @@ class Kept:
     def end(self) -> list[str]:
         """What is answered behind the last line."""
         if self.is_refused or not self.game.is_over:
-            return [f"stands {table_of(self.game.state)} points {' '.join(map(str, self.game.state.points))}"]
+            return [self.stands()]
         told = ["over", *([f"left {self.game.state.sticks}"] if self.game.state.sticks else [])]
         finals = sorted(enumerate(self.game.final()), key=lambda it: (it[1].place, it[0]))
         for player, it in finals:
@@ -215,7 +231,7 @@ def try_text(lines: list[str]) -> int:
         elif kept is None:
             continue
         else:
-            got = ["refused G14"] if kept.is_refused else kept.answer(line)
+            got = kept.undo() if line == "undo" else ["refused G14"] if kept.is_refused else kept.answer(line)
             kept.is_refused |= got[:1] != [] and got[0].startswith("refused")
         if len(wanted) > len(got):
             got += kept.end()
