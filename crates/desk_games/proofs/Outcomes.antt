@@ -46,16 +46,16 @@ refused_so game fault = (game.former, ap (λ (held : Bool). desk.Game (record ga
 blank_so : (game : GameSoFar) → GoesOn game (blank_reply (desk.Game game))
 blank_so game = (game.former, ap (λ (held : Bool). desk.Game (record game { is_held = held })) (sym (or_false game.is_held)))
 
-entry_so : (form : GamesForm) (game : GameSoFar) (entry : Result Outcome GameFault) → GoesOn game (entry_reply form game entry)
-entry_so form game (Err fault) = refused_so game fault
-entry_so form game (Ok outcome) = (
+entry_so : (form : GamesForm) (game : GameSoFar) (line : List ℕ) (entry : Result Outcome GameFault) → GoesOn game (entry_reply form game line entry)
+entry_so form game line (Err fault) = refused_so game fault
+entry_so form game line (Ok outcome) = (
   Some game.progress,
   ap (λ (held : Bool). desk.Game (record { names = game.names; rules = game.rules; progress = after_all game.progress game.rules (outcome ∷ []); former = Some game.progress; is_held = held })) (sym (or_false game.is_held)),
 )
 
-either_so : (form : GamesForm) (game : GameSoFar) (held : Bool) (entry : Result Outcome GameFault) → GoesOn game (if held then refusal (desk.Game game) G14 else entry_reply form game entry)
-either_so form game true entry = refused_so game G14
-either_so form game false entry = entry_so form game entry
+either_so : (form : GamesForm) (game : GameSoFar) (line : List ℕ) (held : Bool) (entry : Result Outcome GameFault) → GoesOn game (if held then refusal (desk.Game game) G14 else entry_reply form game line entry)
+either_so form game line true entry = refused_so game G14
+either_so form game line false entry = entry_so form game line entry
 
 goes_on_one : (form : GamesForm) (given : Rules) (game : GameSoFar) (seen : LineOfGame) (line : List ℕ) (reply : Reply) → is_begin seen ≡ false → is_undo seen ≡ false → IsReplyTo form given (desk.Game game) seen line reply → GoesOn game reply
 goes_on_one form given game Odd line reply other keeps is = subst (λ (r : Reply). GoesOn game r) (sym is) (refused_so game G1)
@@ -63,7 +63,7 @@ goes_on_one form given game Blank line reply other keeps is = subst (λ (r : Rep
 goes_on_one form given game (Begins words) line reply other keeps is = absurd (cc)
 goes_on_one form given game Undo line reply other keeps is = absurd (cc)
 goes_on_one form given game Entry line reply other keeps is =
-    subst (λ (r : Reply). GoesOn game r) (sym is) (either_so form game game.is_held (outcome_of_entry game.names game.progress game.rules line))
+    subst (λ (r : Reply). GoesOn game r) (sym is) (either_so form game line game.is_held (outcome_of_entry game.names game.progress game.rules line))
 
 -- ---- more lines
 
@@ -102,7 +102,7 @@ none_taken form given game (Begins words) line reply other keeps held is = absur
 none_taken form given game Undo line reply other keeps held is = absurd (cc)
 none_taken form given game Entry line reply other keeps held is =
     ap (λ (r : Reply). r.outcome) is
-    ∙ ap (λ (b : Bool). (if b then refusal (desk.Game game) G14 else entry_reply form game (outcome_of_entry game.names game.progress game.rules line)).outcome) held
+    ∙ ap (λ (b : Bool). (if b then refusal (desk.Game game) G14 else entry_reply form game line (outcome_of_entry game.names game.progress game.rules line)).outcome) held
 
 pub held_takes_none : HeldTakesNone
 held_takes_none form given game [] replies last none keep held are = ap outcomes_in are.0

@@ -1,6 +1,9 @@
 -- What stands below an answer and says why it is so. Where the answers alone are told it is nothing.
 use Rattle.std.specs.Prelude.{ℕ, List, [], ◌∷◌, ◌++◌, Bool, true, false, ◌&&◌, not, if◌then◌else◌, Option, None, Some}
 use Rattle.std.specs.List.{flat_map}
+use Rattle.riichi_table.specs.Players.{of_player}
+use Rattle.riichi_table.specs.declared.player.Player.{Player}
+use Rattle.riichi_table.specs.declared.player.Player.TheVariants.{First, Second, Third, Fourth}
 use Rattle.riichi_table.specs.declared.player.ByPlayer.{ByPlayer}
 use Rattle.riichi_table.specs.declared.rules.TableRules.{TableRules}
 use Rattle.riichi_table.specs.declared.outcome.Outcome.{Outcome}
@@ -11,8 +14,12 @@ use Rattle.riichi_game.specs.declared.game.Progress.{Progress}
 use Rattle.riichi_game_reasons.specs.EndReasons.{end_reason, end_line}
 use Rattle.riichi_game_reasons.specs.FinalSums.{final_reasons}
 use Rattle.riichi_game_reasons.specs.MoveLines.{move_line}
+use Rattle.riichi_game_reasons.specs.ValueLines.{value_line}
 use Rattle.riichi_game_reasons.specs.declared.ends.EndReason.TheVariants.{Said}
 use Rattle.riichi_game_text.specs.Names.{names_in}
+use Rattle.riichi_game_text.specs.Words.{said_in}
+use Rattle.riichi_game_text.specs.WonValues.{won_values}
+use Rattle.riichi_game_text.specs.declared.won_value.WonValue.{WonValue}
 use Rattle.desk_games.specs.declared.below.Step.{Step}
 use Rattle.desk_games.specs.declared.form.GamesForm.{GamesForm}
 use Rattle.desk_games.specs.declared.form.GamesForm.TheVariants.{Answers, Explained}
@@ -24,13 +31,14 @@ explains Explained = true
 
 -- ---- a deal
 
--- An outcome of a game with these names and rules, and how far the game has come before it and after it.
+-- An outcome of a game with these names and rules, how far the game has come before it and after it, and the line that says it.
 pub record GameStep : Type 0 where
   pub names : ByPlayer (List ℕ)
   pub rules : TableRules
   pub before : Progress
   pub after : Progress
   pub outcome : Outcome
+  pub line : List ℕ
 
 abbrev pub step_in : Step → GameStep
 step_in step = record {
@@ -39,7 +47,20 @@ step_in step = record {
   before = step.before.now;
   after = step.after.now;
   outcome = step.outcome.now;
+  line = step.line.now;
 }
+
+abbrev pub value_below : List ℕ → Option WonValue → List ℕ
+value_below name None = []
+value_below name (Some value) = 10 ∷ value_line name value
+
+abbrev pub player_value : GameStep → ByPlayer (Option WonValue) → Player → List ℕ
+player_value step values player = value_below (of_player step.names player) (of_player values player)
+
+-- a line for each who has a value by han and fu or by a hand, by the first seats
+abbrev pub values_below : GameStep → ByPlayer (Option WonValue) → List ℕ
+values_below step values =
+    player_value step values First ++ (player_value step values Second ++ (player_value step values Third ++ player_value step values Fourth))
 
 -- the line of a move, behind the end of the line before it
 abbrev pub move_below : GameStep → Move → List ℕ
@@ -56,9 +77,11 @@ end_below step =
     then 10 ∷ end_line step.names step.rules step.after.state.points (end_reason step.rules step.before.state step.after.state step.outcome)
     else []
 
--- what a deal moves, in the order of the list that it is settled by, and why the game is over
+-- what the hands are worth, what the deal moves, in the order of the list that it is settled by, and why the game is over
 abbrev pub deal_reasons : GameStep → List ℕ
-deal_reasons step = moves_below step (moves_of step.before.state step.rules step.outcome) ++ end_below step
+deal_reasons step =
+    values_below step (won_values step.names step.rules step.before.state (said_in step.line))
+    ++ (moves_below step (moves_of step.before.state step.rules step.outcome) ++ end_below step)
 
 -- what stands below the answer to a deal
 abbrev pub below_deal : GamesForm → GameStep → List ℕ

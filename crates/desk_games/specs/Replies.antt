@@ -98,34 +98,35 @@ answer_to_outcome form step other = Some (deal_text step.before.state step.after
 abbrev pub outcome_answer : GamesForm → GameStep → Option (List ℕ)
 outcome_answer form step = answer_to_outcome form step step.outcome
 
-abbrev pub step_of : GameSoFar → Outcome → Progress → GameStep
-step_of game outcome after = record {
+abbrev pub step_of : GameSoFar → List ℕ → Outcome → Progress → GameStep
+step_of game line outcome after = record {
   names = game.names;
   rules = game.rules;
   before = game.progress;
   after = after;
   outcome = outcome;
+  line = line;
 }
 
--- an outcome brings the game on
-abbrev pub accept : GamesForm → GameSoFar → Outcome → Reply
-accept form game outcome =
+-- the outcome that a line says brings the game on
+abbrev pub accept : GamesForm → GameSoFar → List ℕ → Outcome → Reply
+accept form game line outcome =
     let after = after_one game.progress game.rules outcome in record {
       ended = None;
-      answer = outcome_answer form (step_of game outcome after);
+      answer = outcome_answer form (step_of game line outcome after);
       outcome = Some outcome;
       kind = Answered;
       desk = desk.Game (record game { progress = after; former = Some game.progress });
     }
 
-abbrev pub entry_reply : GamesForm → GameSoFar → Result Outcome GameFault → Reply
-entry_reply form game (Err fault) = refusal (desk.Game game) fault
-entry_reply form game (Ok outcome) = accept form game outcome
+abbrev pub entry_reply : GamesForm → GameSoFar → List ℕ → Result Outcome GameFault → Reply
+entry_reply form game line (Err fault) = refusal (desk.Game game) fault
+entry_reply form game line (Ok outcome) = accept form game line outcome
 
 abbrev pub game_reply : GamesForm → GameSoFar → List ℕ → Reply
 game_reply form game line =
     if game.is_held then refusal (desk.Game game) G14
-    else entry_reply form game (outcome_of_entry game.names game.progress game.rules line)
+    else entry_reply form game line (outcome_of_entry game.names game.progress game.rules line)
 
 -- ---- where a line is taken back
 

@@ -229,7 +229,7 @@ impl GameAtHand {
             return LineKind::Refused;
         }
         match read_entry(&self.names, &self.progress, &self.rules, line) {
-            Ok(accepted) => self.accept(manner, &accepted, outbox),
+            Ok(accepted) => self.accept(manner, line, &accepted, outbox),
             Err(fault) => {
                 self.hold();
                 put_refused(manner.front, fault, outbox);
@@ -239,11 +239,18 @@ impl GameAtHand {
     }
 
     /// Goes on by what an accepted line says, and puts its answer.
-    fn accept(&mut self, manner: Manner, accepted: &AcceptedLine, outbox: &mut Outbox) -> LineKind
+    fn accept(
+        &mut self,
+        manner: Manner,
+        line: &[u8],
+        accepted: &AcceptedLine,
+        outbox: &mut Outbox,
+    ) -> LineKind
         requires room { HasRoomForLine outbox.old }
         requires after { next_of self.old.progress self.old.rules accepted.now.outcome
             ≡ Ok accepted.now.after }
-        ensures { PutsReply manner.front (accept manner.form self.old accepted.now.outcome) result
+        ensures { PutsReply manner.front
+            (accept manner.form self.old line.now accepted.now.outcome) result
             outbox.old.bytes.items outbox.new.bytes.items (Game self.new) }
     {
         let before = self.progress;
@@ -255,6 +262,7 @@ impl GameAtHand {
             before: &before,
             after: &accepted.after,
             outcome: &accepted.outcome,
+            line,
         };
         put_outcome(manner, &step, outbox);
         LineKind::Answered

@@ -8,6 +8,8 @@ stands east 1 counters 2 sticks 1 points 29000 30000 30000 30000
 => east 1 counters 0 sticks 0 changes -1000 0 0 0 points 29000 30000 30000 30000
 ron Anna from Cyd 1.40 and Bo 1.30 riichi Anna
 => east 1 counters 2 sticks 1 changes +3600 +1000 -3600 0 points 32600 31000 26400 30000
+=>   Anna's hand: 1 han 40 fu
+=>   Bo's hand: 1 han 30 fu
 =>   Anna bets 1000
 =>   Cyd pays Anna 2000: ron, 320 base points
 =>   Cyd pays Anna 600: 2 counters
@@ -20,6 +22,8 @@ stands east 1 counters 2 sticks 1 points 29000 30000 30000 30000
 => east 1 counters 0 sticks 0 changes -1000 0 0 0 points 29000 30000 30000 30000
 ron Anna from Cyd 1.40 and Bo 1.30 riichi Anna
 => east 1 counters 2 sticks 1 changes +3600 +1600 -4200 0 points 32600 31600 25800 30000
+=>   Anna's hand: 1 han 40 fu
+=>   Bo's hand: 1 han 30 fu
 =>   Anna bets 1000
 =>   Cyd pays Anna 2000: ron, 320 base points
 =>   Cyd pays Anna 600: 2 counters
@@ -33,6 +37,8 @@ stands east 1 counters 2 sticks 1 points 29000 30000 30000 30000
 => east 1 counters 0 sticks 0 changes -1000 0 0 0 points 29000 30000 30000 30000
 ron Anna from Cyd 1.40 and Bo 1.30 riichi Anna
 => east 1 counters 2 sticks 1 changes +3600 0 -2600 0 points 32600 30000 27400 30000
+=>   Anna's hand: 1 han 40 fu
+=>   Bo's hand: 1 han 30 fu
 =>   Anna bets 1000
 =>   Cyd pays Anna 2000: ron, 320 base points
 =>   Cyd pays Anna 600: 2 counters
@@ -44,6 +50,8 @@ stands south 2 counters 1 sticks 2 points 28000 31000 27000 32000
 => east 1 counters 0 sticks 0 changes -2000 +1000 -3000 +2000 points 28000 31000 27000 32000
 ron Bo from Anna 2.40 and Dee 3.30 riichi Dee,Cyd
 => south 2 counters 1 sticks 2 changes -8100 +7200 -1000 +3900 points 19900 38200 26000 35900
+=>   Bo's hand: 2 han 40 fu
+=>   Dee's hand: 3 han 30 fu
 =>   Cyd bets 1000
 =>   Dee bets 1000
 =>   Anna pays Bo 3900: ron, 640 base points
@@ -91,6 +99,7 @@ const LIMIT_HANDS: &[u8] = b"game Anna Bo Cyd Dee
 => game Anna Bo Cyd Dee start 30000
 ron Bo from Cyd 5.30 and Dee haneman and Anna baiman
 => east 1 counters 0 sticks 0 changes +24000 +8000 -44000 +12000 points 54000 38000 -14000 42000
+=>   Bo's hand: 5 han 30 fu
 =>   Cyd pays Anna 24000: ron, baiman
 =>   Cyd pays Bo 8000: ron, mangan
 =>   Cyd pays Dee 12000: ron, haneman
@@ -104,8 +113,34 @@ tsumo Bo sanbaiman
 =>   Dee pays Bo 100: 1 counter
 ron Anna from Dee 13.30
 => east 2 counters 0 sticks 0 changes +32000 0 0 -32000 points 73900 62300 -20100 3900
+=>   Anna's hand: 13 han 30 fu
 =>   Dee pays Anna 32000: ron, yakuman by 13 han
 => stands east 3 counters 0 sticks 0 points 73900 62300 -20100 3900";
+
+const HANDS_BY_TILES: &[u8] = b"game Anna Bo Cyd Dee
+=> game Anna Bo Cyd Dee start 30000
+ron Bo from Cyd mangan and Anna 234m567m345p67s99s on=5s dora=1m riichi Anna
+=> east 1 counters 0 sticks 0 changes +5800 +8000 -13800 0 points 35800 38000 16200 30000
+=>   Anna's hand: won 3 han 30 fu 5800 gain 5800 riichi pinfu dora 1
+=>   Anna bets 1000
+=>   Cyd pays Anna 5800: ron, 960 base points
+=>   Cyd pays Bo 8000: ron, mangan
+=>   Anna takes 1 stick: 1000
+ron Bo from Cyd 23m99p open=pon:555z,pon:666z,pon:777z on=4m liable Dee
+=> east 1 counters 1 sticks 0 changes 0 +32300 -16000 -16300 points 35800 70300 200 13700
+=>   Bo's hand: won yakuman 32000 gain 32000 big-three-dragons
+=>   Dee pays Bo 16000: liable for 1 limit
+=>   Cyd pays Bo 16000: the other half of 1 limit
+=>   Dee pays Bo 300: 1 counter
+=> stands east 2 counters 0 sticks 0 points 35800 70300 200 13700
+game Anna Bo Cyd Dee ron=nearest
+=> game Anna Bo Cyd Dee start 30000
+ron Anna from Cyd 3.30 and Dee 2.40
+=> east 1 counters 0 sticks 0 changes 0 0 -2600 +2600 points 30000 30000 27400 32600
+=>   Anna's hand: 3 han 30 fu
+=>   Dee's hand: 2 han 40 fu
+=>   Cyd pays Dee 2600: ron, 640 base points
+=> stands east 2 counters 0 sticks 0 points 30000 30000 27400 32600";
 
 const DRAWS_AND_ABORTS: &[u8] = b"game Anna Bo Cyd Dee nagashi=on ron=two
 => game Anna Bo Cyd Dee start 30000
@@ -131,8 +166,12 @@ abort riichi Anna,Bo,Cyd,Dee
 =>   Dee bets 1000
 ron Anna from Dee 1.30 and Bo 1.30 and Cyd 1.30
 => east 3 counters 4 sticks 5 changes 0 0 0 0 points 42500 23500 25500 23500
+=>   Anna's hand: 1 han 30 fu
+=>   Bo's hand: 1 han 30 fu
+=>   Cyd's hand: 1 han 30 fu
 tsumo Bo 1.30
 => east 3 counters 5 sticks 5 changes -800 +7600 -1000 -800 points 41700 31100 24500 22700
+=>   Bo's hand: 1 han 30 fu
 =>   Anna pays Bo 300: self-draw, 240 base points
 =>   Anna pays Bo 500: 5 counters
 =>   Cyd pays Bo 500: self-draw, 240 base points
@@ -183,6 +222,7 @@ stands south 4 counters 1 sticks 0 points 27000 23500 20500 29000
 => east 1 counters 0 sticks 0 changes +2000 -1500 -4500 +4000 points 27000 23500 20500 29000
 tsumo Dee 1.30
 => south 4 counters 1 sticks 0 changes -600 -600 -600 +1800 points 26400 22900 19900 30800
+=>   Dee's hand: 1 han 30 fu
 =>   Anna pays Dee 500: self-draw, 240 base points
 =>   Anna pays Dee 100: 1 counter
 =>   Bo pays Dee 500: self-draw, 240 base points
@@ -205,6 +245,7 @@ stands south 4 counters 0 sticks 0 points 29000 25000 20000 26000
 => east 1 counters 0 sticks 0 changes +4000 0 -5000 +1000 points 29000 25000 20000 26000
 ron Anna from Bo 1.30
 => south 4 counters 0 sticks 0 changes +1000 -1000 0 0 points 30000 24000 20000 26000
+=>   Anna's hand: 1 han 30 fu
 =>   Bo pays Anna 1000: ron, 240 base points
 =>   over: the last round is played
 => over
@@ -292,6 +333,12 @@ fn liable_players(rt: HostRuntime) -> Result<(), Fail> {
 #[test]
 fn limit_hands(rt: HostRuntime) -> Result<(), Fail> {
     is_explained(&rt, LIMIT_HANDS)
+}
+
+/// What a hand by its tiles is worth, and a hand whose ron doesn't win.
+#[test]
+fn hands_by_tiles(rt: HostRuntime) -> Result<(), Fail> {
+    is_explained(&rt, HANDS_BY_TILES)
 }
 
 #[test]

@@ -100,8 +100,8 @@ fn is_before_last(rules: &TableRules, round: Wind) -> bool
     round_number(round) < last_number(rules.length)
 }
 
-/// Whether it is the one round more.
-fn is_behind_last(rules: &TableRules, round: Wind) -> bool
+/// Whether a round stands behind the last of the rules: then it is the one round more.
+pub fn is_behind_last(rules: &TableRules, round: Wind) -> bool
     ensures { result ≡ spec.is_behind_last rules.now round }
 {
     last_number(rules.length) < round_number(round)
@@ -121,8 +121,9 @@ pub fn has_round(rules: &TableRules, round: Wind) -> bool
     !is_beyond(rules, round) && (!is_behind_last(rules, round) || rules.extra.is_some())
 }
 
+/// Whether somebody has less than 0.
 #[tactic(auto, unfolding(crate::specs::Ends::is_bust))]
-fn is_bust(points: &ByPlayer<i64>) -> bool
+pub fn is_bust(points: &ByPlayer<i64>) -> bool
     ensures { result ≡ spec.is_bust points.now }
 {
     points.first < 0 || points.second < 0 || points.third < 0 || points.fourth < 0
@@ -137,7 +138,7 @@ fn has_so_many(points: &ByPlayer<i64>, most: u32) -> bool
 }
 
 /// Whether somebody has the points for which no round more is played.
-fn is_enough(extra: Option<u32>, points: &ByPlayer<i64>) -> bool
+pub fn is_enough(extra: Option<u32>, points: &ByPlayer<i64>) -> bool
     ensures { result ≡ spec.is_enough extra points.now }
 {
     match extra {

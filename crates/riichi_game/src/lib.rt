@@ -23,7 +23,7 @@ mod numbers;
 mod values;
 mod won;
 
-pub use ends::has_round;
+pub use ends::{has_round, is_behind_last, is_bust, is_enough};
 pub use game::{Progress, after_all};
 pub use hands::{NoWorth, win_record, worth_of_score, worth_of_win};
 pub use values::{LimitHand, counted_worth, limit_worth, most_limits, occurs};

@@ -2,7 +2,7 @@
 use crate::facts::*;
 use riichi_game::{Progress, after_all};
 use riichi_hand::Wind;
-use riichi_settle::settle;
+use riichi_settle::{Move, Reason, Taking, as_played, moves_as_played, settle, sticks_after};
 use riichi_table::*;
 use std::process::Abort;
 use std::test::Fail;
@@ -50,6 +50,44 @@ fn three_deals(rt: HostRuntime) {
     assert_eq!(rt; three.state.counters, 0);
     assert_eq!(rt; three.state.sticks, 0);
     assert_eq!(rt; three.is_over, false);
+}
+
+/// The second player, who has bet, wins 1 han 30 fu off the third, with two counters and a stick: the bet, the hand, the counters, and
+/// both sticks.
+#[test]
+fn moves_of_a_win(rt: HostRuntime) {
+    let before = with(2, 1);
+    let rules = TableRules::club();
+    let outcome = Outcome::Ron {
+        from: Player::Third,
+        wins: ByPlayer::all(None).with(Player::Second, Some(plain(240))),
+        riichi: only(Player::Second),
+    };
+    let moves = moves_as_played(&before.state, &rules, &as_played(&rules, &outcome));
+    let wanted = [
+        Move::Bet {
+            player: Player::Second,
+        },
+        Move::Points {
+            from: Player::Third,
+            to: Player::Second,
+            points: 1000,
+            why: Reason::Ron,
+        },
+        Move::Points {
+            from: Player::Third,
+            to: Player::Second,
+            points: 600,
+            why: Reason::Counters,
+        },
+        Move::Sticks {
+            to: Player::Second,
+            count: 2,
+            why: Taking::Winner,
+        },
+    ];
+    assert_eq!(rt; moves.as_slice(), wanted.as_slice());
+    assert_eq!(rt; sticks_after(1, &moves), 0);
 }
 
 /// The dealer, who has bet, with 1 han 40 fu and the second player with 1 han 30 fu win off the third, with two counters and a

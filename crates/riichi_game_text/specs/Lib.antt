@@ -16,4 +16,5 @@ pub mod Won
 pub mod PlainLines
 pub mod Rons
 pub mod StandsLines
+pub mod WonValues
 pub mod Entries

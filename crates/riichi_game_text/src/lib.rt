@@ -28,6 +28,7 @@ mod value;
 mod values;
 mod win;
 mod won;
+mod won_value;
 mod words;
 
 pub use answers::{
@@ -40,4 +41,5 @@ pub use final_texts::{MOST_FINAL, MOST_OVER, push_over};
 pub use game_line::{GameLine, read_game};
 pub use listed::players_if_said;
 pub use name::{MOST_NAME, Name, Names};
+pub use won_value::{WonValue, won_values};
 pub use words::next_said;

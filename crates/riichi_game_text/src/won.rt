@@ -63,7 +63,13 @@ pub(crate) fn win_said(
     win_with(liable, said_limits(&win.liable), &value)
 }
 
-fn known_of(state: &GameState, by: By, winner: Player, bets: bool, win: &WrittenWin<'_>) -> Known
+pub(crate) fn known_of(
+    state: &GameState,
+    by: By,
+    winner: Player,
+    bets: bool,
+    win: &WrittenWin<'_>,
+) -> Known
     ensures { result ≡ spec.known_of state.now by winner bets (said_win win.now) }
 {
     Known {
@@ -130,7 +136,7 @@ fn liable_win(player: Player, value: &ValueWorth, limits: Option<u32>) -> Result
 
 /// A win by self-draw and the names of those who bet.
 #[tactic(auto, unfolding(crate::specs::Won::tsumo_form))]
-fn tsumo_form(text: &[u8]) -> Option<(WrittenWin<'_>, Option<&[u8]>)>
+pub(crate) fn tsumo_form(text: &[u8]) -> Option<(WrittenWin<'_>, Option<&[u8]>)>
     ensures { let form = spec.tsumo_form (said_in text.now) in
         MatchOption result (form ≡ None)
         (λ found. form ≡ Some (said_win found.0, option_map (λ names. names.now) found.1)) }

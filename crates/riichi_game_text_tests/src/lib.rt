@@ -1,4 +1,4 @@
-//! Tests of `riichi_game_text` by what it exports: the lines and the answers of docs/GAME.md.
+//! Tests of `riichi_game_text` and `riichi_need_text` by what they export: the lines and the answers of docs/GAME.md.
 //!
 //! They stand apart from the library, since a check of a crate with its tests proves the crate once more.
 #![tactic(auto)]
@@ -7,6 +7,8 @@
 mod answers;
 #[cfg(test)]
 mod game_lines;
+#[cfg(test)]
+mod needs;
 #[cfg(test)]
 mod pages;
 #[cfg(test)]
