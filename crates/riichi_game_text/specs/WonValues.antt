@@ -28,17 +28,17 @@ hand_value (Err fault) = None
 hand_value (Ok hand) = Some (Hand hand)
 
 -- han and fu as they are written, or the hand with what the game knows; a limit hand says nothing more than its name
-abbrev pub value_of : TableRules → GameState → By → Player → Bool → SaidWin → WrittenValue → Option WonValue
-value_of rules state by winner bets win (written.Counted han fu) = Some (Counted han fu)
-value_of rules state by winner bets win (written.Limit hand) = None
-value_of rules state by winner bets win written.Hand = hand_value (hand_said rules.hand (known_of state by winner bets win) win.hand win.words)
+abbrev pub won_value_of : TableRules → GameState → By → Player → Bool → SaidWin → WrittenValue → Option WonValue
+won_value_of rules state by winner bets win (written.Counted han fu) = Some (Counted han fu)
+won_value_of rules state by winner bets win (written.Limit hand) = None
+won_value_of rules state by winner bets win written.Hand = hand_value (hand_said rules.hand (known_of state by winner bets win) win.hand win.words)
 
 -- ---- the values of a line, by player
 
 abbrev pub value_found : TableRules → GameState → By → ByPlayer Bool → SaidWin → Option Player → ByPlayer (Option WonValue) → ByPlayer (Option WonValue)
 value_found rules state by riichi win None values = values
 value_found rules state by riichi win (Some winner) values =
-    with_player values winner (value_of rules state by winner (of_player riichi winner) win win.value)
+    with_player values winner (won_value_of rules state by winner (of_player riichi winner) win win.value)
 
 -- the value of the player who is named
 abbrev pub with_value : ByPlayer (List ℕ) → TableRules → GameState → By → ByPlayer Bool → Option SaidWin → ByPlayer (Option WonValue) → ByPlayer (Option WonValue)

@@ -164,7 +164,7 @@ fn with_value(
 }
 
 fn value_of(place: &Place<'_>, winner: Player, win: &WrittenWin<'_>) -> Option<WonValue>
-    ensures { result ≡ spec.value_of place.now.rules.now place.now.state.now place.now.by winner
+    ensures { result ≡ spec.won_value_of place.now.rules.now place.now.state.now place.now.by winner
         (of_player place.now.riichi winner) (said_win win.now) (said_win win.now).value }
 {
     match win.value {
