@@ -49,7 +49,7 @@ def moved(names: list[str], lines: list[str]) -> list[int]:
             sums[found[1]] -= 1000
         elif found := re.fullmatch(r"  (\S+) takes .+: (\d+)", line):
             sums[found[1]] += int(found[2])
-        elif not line.startswith("  over: "):
+        elif not re.match(r"  (over|\S+'s hand): ", line):
             raise ValueError(line)
     return [sums[name] for name in names]
 
