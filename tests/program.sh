@@ -550,10 +550,12 @@ row 2 '' "error: --rules has no rule \`red\`" game --rules 1+red "$room/good.gam
 # with reasons, also behind the numbers of lines
 row 0 "$begun
 $first
+  Bo's hand: 1 han 30 fu
   Cyd pays Bo 1000: ron, 240 base points
 $stands" '' game --explain "$room/good.game"
 row 0 "1:$begun
 2:$first
+  Bo's hand: 1 han 30 fu
   Cyd pays Bo 1000: ron, 240 base points
 $stands" '' game --number --explain "$room/good.game"
 row 1 "$begun
