@@ -15,8 +15,9 @@ from pathlib import Path
 class Browser:
     """A browser with one page. Its methods wait for what they ask."""
 
-    def __init__(self, program: str):
-        self.home = tempfile.mkdtemp(prefix="desk-browser-")
+    def __init__(self, program: str, home: str | None = None):
+        self.program = program
+        self.home = home or tempfile.mkdtemp(prefix="desk-browser-")
         to_browser, self.to = os.pipe()
         self.back, from_browser = os.pipe()
         words = [program, "--headless=new", "--remote-debugging-pipe", "--no-first-run", "--disable-gpu", "--mute-audio"]
@@ -40,10 +41,19 @@ class Browser:
 
     def close(self) -> None:
         self.process.terminate()
+        self.ended()
+        shutil.rmtree(self.home, ignore_errors=True)
+
+    def ended(self) -> None:
         self.process.wait()
         os.close(self.to)
         os.close(self.back)
-        shutil.rmtree(self.home, ignore_errors=True)
+
+    def begun_again(self) -> Browser:
+        """Kills the browser at once, as where the power goes, and begins it anew over what lies on the disk."""
+        self.process.kill()
+        self.ended()
+        return Browser(self.program, self.home)
 
     def message(self) -> dict:
         while b"\0" not in self.rest:
@@ -54,14 +64,25 @@ class Browser:
         said, _, self.rest = self.rest.partition(b"\0")
         return json.loads(said)
 
-    def ask(self, method: str, **parameters) -> dict:
-        """Calls a method of the protocol; events that come meanwhile are kept in `events`."""
+    def call(self, method: str, **parameters) -> int:
+        """Calls a method of the protocol, and waits for nothing; gives the number of the call."""
         number = next(self.numbers)
         call = {"id": number, "method": method, "params": parameters}
         call |= {"sessionId": self.session} if self.session else {}
         said = json.dumps(call).encode() + b"\0"
         while said:
             said = said[os.write(self.to, said) :]
+        return number
+
+    def crash(self) -> None:
+        """Ends the process of the page at once, as a phone does that wants its memory."""
+        self.call("Page.crash")
+        while self.message().get("method") != "Inspector.targetCrashed":
+            pass
+
+    def ask(self, method: str, **parameters) -> dict:
+        """Calls a method of the protocol; events that come meanwhile are kept in `events`."""
+        number = self.call(method, **parameters)
         while (said := self.message()).get("id") != number:
             self.events.append(said)
         if "error" in said:

@@ -164,7 +164,7 @@ def test_lacking_browser(browser: Browser, folder: Path) -> None:
         "WebAssembly is missing": "delete globalThis.WebAssembly",
         "64-bit numbers (BigInt) are missing": "delete globalThis.BigInt64Array",
         "Dialogs are missing": "delete globalThis.HTMLDialogElement",
-        "its WebAssembly is too old": "WebAssembly.validate = () => false",
+        "its WebAssembly is too old": "WebAssembly.compile = () => Promise.reject(new WebAssembly.CompileError())",
     }
     for words, script in rows.items():
         added = browser.ask("Page.addScriptToEvaluateOnNewDocument", source=script)["identifier"]

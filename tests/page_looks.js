@@ -33,9 +33,10 @@ function pale() {
     const style = getComputedStyle(it);
     const hasText = [...it.childNodes].some((node) => node.nodeType === Node.TEXT_NODE && node.data.trim()) || it.matches(TYPED);
     if (hasText && ratio(parts(style.color), ground(it)) < 4.5) found.push(`text ${named(it)}`);
-    const isControl = it.matches(`button:not(.on-tile), .button, .option span, ${TYPED}`);
-    const ends = [style.borderBlockEndColor, style.backgroundColor].map(parts);
-    if (isControl && Math.max(...ends.map((end) => ratio(end, ground(it.parentElement)))) < 3) found.push(`edge of ${named(it)}`);
+    const isControl = it.matches(`button:not(.on-tile, .meld button), .button, .option span, ${TYPED}`);
+    const ends = [style.borderBlockEndColor, style.backgroundColor].map(parts).filter((colour) => colour[3] !== 0);
+    // A control that has neither an edge nor a ground of its own is known by its words.
+    if (isControl && ends.length > 0 && Math.max(...ends.map((end) => ratio(end, ground(it.parentElement)))) < 3) found.push(`edge of ${named(it)}`);
   }
   return found;
 }
@@ -45,7 +46,7 @@ function cut() {
   const controls = "button:not(.on-tile, .meld button), .button, .option span, label, legend";
   const isCut = (it) => it.scrollWidth > it.clientWidth + 1 || it.scrollHeight > it.clientHeight + 1;
   return [...document.querySelectorAll(`${controls}, dt, dd, h2, h3, .yaku li, .headline, .raw`)]
-    .filter((it) => isShown(it) && it.clientWidth > 0 && isCut(it))
+    .filter((it) => isShown(it) && !it.matches(".heard") && it.clientWidth > 0 && isCut(it))
     .map((it) => `${named(it)}: ${it.scrollWidth} x ${it.scrollHeight} in ${it.clientWidth} x ${it.clientHeight}`);
 }
 
@@ -74,7 +75,9 @@ function outOfReach() {
   const targets = ["chi", "ankan", "dora"].map((name) => `[data-target=${name}]`);
   return ["#tray", "#back", "#answer", "#new", "#why", ...inputs, ...tiles, ...targets].filter((name) => {
     const { top, bottom, left, right } = boxOf(name);
-    const end = document.querySelector(name).closest("#bar") ? innerHeight : boxOf("#bar").top;
+    // Beside the choices of a whole hand the bar covers nothing.
+    const isBelow = document.getElementById("one").dataset.full !== "yes";
+    const end = isBelow && !document.querySelector(name).closest("#bar") ? boxOf("#bar").top : innerHeight;
     return top < -0.5 || bottom > end + 2.5 || left < -0.5 || right > innerWidth + 0.5;
   });
 }

@@ -56,8 +56,9 @@ def look_at_modes(browser: Browser, about: str, is_phone: bool, folder: Path) ->
         look(browser, f"{name} {about}", folder)
         if is_phone and line.startswith("win"):
             sound(browser, f"{name} {about}", "outOfReach")
-            is_low = browser.run("document.getElementById('bar').offsetHeight <= innerHeight / 4 + 0.5")
-            told(f"{name} {about}: the bar is a quarter at most", True, is_low)
+            is_beside = "document.getElementById('one').dataset.full === 'yes'"
+            is_low = browser.run(f"{is_beside} || document.getElementById('bar').offsetHeight <= innerHeight / 4 + 0.5")
+            told(f"{name} {about}: the bar is a quarter at most, or beside the choices", True, is_low)
     type_line(browser, VIEWS["win"])
     browser.run("document.getElementById('why').click()")
     look(browser, f"sheet {about}", folder)
@@ -120,6 +121,7 @@ def test_lying(browser: Browser) -> None:
 
 def test_names_of_controls(browser: Browser) -> None:
     """Each control has a name for a screen reader, and so has each tile and answer."""
+    browser.size(*SIZES[3])
     fresh(browser)
     type_line(browser, VIEWS["win"])
     wanted = {"button", "radio", "checkbox", "textbox", "spinbutton", "link", "image", "radiogroup", "region", "dialog"}
@@ -128,7 +130,7 @@ def test_names_of_controls(browser: Browser) -> None:
     told("controls without a name", [], [role for role, name in roles if role in wanted and not name])
     told("tiles, choices and buttons", True, sum(role in wanted for role, _ in roles) > 70)
     names = {name for _, name in roles}
-    read_aloud = {"1 of characters", "White dragon", "Take out 5 of bamboos", "East, the dealer", "Answer", "Counters"}
+    read_aloud = {"1 of characters", "White dragon", "Winning tile. Take out 5 of bamboos", "2 of characters: make it the winning tile", "East, the dealer", "Answer", "Counters"}
     told("names that are read aloud", set(), read_aloud - names)
     told("the answer is told when it changes", "polite", browser.run("document.getElementById('answer').ariaLive"))
     told("the language of the page", "en", browser.run("document.documentElement.lang"))

@@ -22,6 +22,14 @@ FAULTY = "[...document.querySelectorAll('.faulty')].map(it => it.dataset.field).
 MODE = "document.querySelector('#modes input:checked').value"
 
 
+# Both copies of what the page keeps are gone.
+FORGET = """new Promise(done => {
+  localStorage.clear();
+  const gone = indexedDB.deleteDatabase('riichi_desk');
+  gone.onsuccess = gone.onerror = () => done(true);
+})"""
+
+
 def told(name: str, wanted, got) -> None:
     TOLD[wanted == got] += 1
     if wanted != got:
@@ -60,7 +68,7 @@ def fill(browser, name: str, value: str) -> None:
 def fresh(browser: Browser, page: Path | str = PAGE) -> None:
     """The page as on the first visit."""
     browser.open(page)
-    browser.run("localStorage.clear()")
+    browser.run(FORGET)
     browser.open(page)
 
 

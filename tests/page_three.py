@@ -3,9 +3,12 @@ a narrow window, and the site without its server."""
 
 from __future__ import annotations
 
+import shutil
 import subprocess
+import tempfile
 from pathlib import Path
 
+from page_game import begin_game, game_text, play
 from page_kept import READY, served
 from page_looks import VIEWS, sound
 from page_rows import LINE, PAGE, RAW, SITE, TOP, answers_of, fill, texts, told
@@ -34,6 +37,34 @@ def test_taps(driver: Driver) -> None:
     told(f"{driver.name}: a reload keeps it", WIN, driver.run(LINE))
     driver.tap("#why")
     told(f"{driver.name}: the sheet", True, driver.run("document.querySelector('#sheet[open] .why') !== null"))
+
+
+def test_game(driver: Driver, address: str) -> None:
+    """An evening of deals with every outcome, by taps in a frame as large as a small phone: no window is so narrow everywhere."""
+    kept = []
+    for is_first in (True, False):
+        driver.ask("POST", "url", {"url": f"{address}/frame.html"})
+        driver.enter("iframe")
+        told(f"{driver.name}: a small phone", [360, 640], driver.run("[innerWidth, innerHeight]"))
+        if is_first:
+            begin_game(driver)
+            play(driver, about=f"{driver.name}: ")
+        kept.append(game_text(driver))
+    told(f"{driver.name}: the page opened again has the game", kept[0], kept[1])
+
+
+def in_a_frame(test, *given) -> None:
+    """Runs a test over an address with the page, and with a page that has it in a frame."""
+    with tempfile.TemporaryDirectory() as room:
+        shutil.copy(PAGE, room)
+        frame = "<!doctype html><body style='margin: 0'><iframe src='desk.html' width='360' height='640' style='border: 0'></iframe>"
+        Path(room, "frame.html").write_text(frame, "utf-8")
+        server = served(Path(room))
+        try:
+            test(*given, f"http://127.0.0.1:{server.server_port}")
+        finally:
+            server.shutdown()
+            server.server_close()
 
 
 def test_narrow(driver: Driver, folder: Path) -> None:
@@ -66,6 +97,8 @@ def test_three(folder: Path) -> None:
                     test(driver)
                 driver.picture(folder / f"{driver.name}.png")
                 driver.run("document.getElementById('sheet').close()")
+                in_a_frame(test_game, driver)
+                driver.open(PAGE.as_uri())
                 test_narrow(driver, folder)
                 test_site(driver)
                 print(f"page: {driver.name} {driver.version}")

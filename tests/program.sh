@@ -308,7 +308,7 @@ while IFS='|' read -r _ code line said; do
   words=$(sed -n "s/^  $code  *//p" "$room/codes")
   got=$("$program" explain "$line")
   told "the code of $line" "refused $code" "$(sed -nE '1s/^(refused [A-Z][0-9]+).*/\1/p' <<< "$got")"
-  told "the word at fault of $line" "$(printf '%b' "${said/'{}'/$words}")" "$(tail -n +2 <<< "$got" | grep -v '^  try: ')"
+  told "the word at fault of $line" "$(printf '%b' "${said/'{}'/$words}")" "$(tail -n +2 <<< "$got" | grep -vE '^  (try: |guess: |here )')"
   words=$("$program" line --json <<< "$line" 2> "$room/said" | sed -nE 's/.*,"words":"([^"]+)"\}$/\1/p')
   told "the words of the JSON of $line" 1 "$(grep -cF -- "${words:-none}" <<< "$got")"
 done < <(sed 's/^/|/' tests/refused.lines)
@@ -320,7 +320,7 @@ status=$?
 told 'what beginners are shown' "status 1
 $(grep -v -e '^> ' -e '^# ' -e '^$' tests/beginners.lines)" "status $status
 $(cat "$room/shown")"
-sed -n 's/^  try: //p' "$room/shown" > "$room/tried"
+sed -nE 's/^  (try|guess): //p' "$room/shown" > "$room/tried"
 for rules in 1 2; do
   "$program" line --rules "$rules" < "$room/tried" > "$room/answers" 2> "$room/said"
   status=$?
@@ -330,8 +330,11 @@ done
 # a line to try is one that the rules of the line accept: before the own first draw a win by ron where they have the blessing of man
 blessed='win 234m567m345p67s99s on=5s by=Ron seat=S round=E flags=first'
 for by in '1 tsumo' '2-ura tsumo' '1+blessing-of-man ron' '2+blessing-of-man ron'; do
+  read_as="
+  here by=Ron is read as by=tsumo."
+  [ "${by#* }" = tsumo ] || read_as=
   row 1 "refused H4
-  by=Ron: a win is by ron or tsumo
+  by=Ron: a win is by ron or tsumo$read_as
   try: ${blessed/Ron/${by#* }}" '' explain --rules "${by% *}" "$blessed"
 done
 
@@ -507,10 +510,12 @@ done
 
 # texts of games: those of docs/GAME.md and of examples/, and the worked deals
 if command -v python3 > /dev/null; then
-  tests/games_told.py "$program" > "$room/games"
-  grep -v '^[0-9]* passed' "$room/games"
-  read -r more _ fewer _ <<< "$(tail -n 1 "$room/games")"
-  passed=$((passed + more)) failed=$((failed + fewer))
+  for told_by in games_told games_as_values; do
+    "tests/$told_by.py" "$program" > "$room/games"
+    grep -v '^[0-9]* passed' "$room/games"
+    read -r more _ fewer _ <<< "$(tail -n 1 "$room/games")"
+    passed=$((passed + more)) failed=$((failed + fewer))
+  done
 else
   skip 'the texts of docs/GAME.md' python3
 fi
@@ -573,6 +578,21 @@ final 1 Dee points 30000 bonus 0.0 penalty 0 total 0.0
   Bo: (30000 - 30000) + bonus 0 - penalty 0 = 0
   Cyd: (30000 - 30000) + bonus 0 - penalty 0 = 0
   Dee: (30000 - 30000) + bonus 0 - penalty 0 = 0" '' game --explain "$room/over.game"
+# as objects of JSON, also with the numbers of lines
+begun_object='"answer":"game","names":["Anna","Bo","Cyd","Dee"],"start":30000}'
+first_object='"answer":"deal","outcome":"ron","round":"east","dealer":0,"counters":0,"sticks":0,"changes":[0,1000,-1000,0],"points":[30000,31000,29000,30000],"moves":[{"from":2,"to":1,"points":1000,"why":"ron","base":240}]}'
+stands_object='{"answer":"stands","round":"east","dealer":1,"counters":0,"sticks":0,"points":[30000,31000,29000,30000]}'
+held_object='{"answer":"stands","round":"east","dealer":0,"counters":0,"sticks":0,"points":[30000,30000,30000,30000]}'
+row 0 "{$begun_object
+{$first_object
+$stands_object" '' game --json "$room/good.game"
+row 0 "{\"line\":1,$begun_object
+{\"line\":2,$first_object
+$stands_object" '' game --number --json "$room/good.game"
+row 1 "{$begun_object
+{\"answer\":\"refused\",\"code\":\"G5\"}
+$held_object" '' game --json "$room/wrong.game"
+row 2 '' 'cannot be used with' game --json --explain "$room/good.game"
 # read as record lines, such a text is answered as one, and said to be one of games
 note='the first line begins a game of four players; `riichi_desk game` reads such a text'
 row 1 $'refused H2\nrefused H2' "standard input: $note" line

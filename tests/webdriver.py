@@ -67,6 +67,9 @@ class Driver:
 
     def open(self, url: str) -> None:
         self.ask("POST", "url", {"url": url})
+        self.wait_for_start()
+
+    def wait_for_start(self) -> None:
         end = time.monotonic() + PATIENCE
         started = "document.querySelector('#desk:not([hidden]), #unable[role=alert]') !== null"
         while not self.run(started):
@@ -75,8 +78,28 @@ class Driver:
             time.sleep(0.1)
 
     def tap(self, selector: str) -> None:
-        found = self.ask("POST", "element", {"using": "css selector", "value": selector})
-        self.ask("POST", f"element/{found[ELEMENT]}/click", {})
+        self.ask("POST", f"element/{self.found(selector)[ELEMENT]}/click", {})
+
+    def found(self, selector: str) -> dict[str, str]:
+        return self.ask("POST", "element", {"using": "css selector", "value": selector})
+
+    def touch(self, selector: str) -> None:
+        """A tap by a finger, where the driver knows fingers: Firefox's does. Chromium is touched by page_game.py."""
+        if self.name != "Firefox":
+            self.tap(selector)
+            return
+        steps = [{"type": "pointerMove", "duration": 0, "origin": self.found(selector), "x": 0, "y": 0}]
+        steps += [{"type": "pointerDown", "button": 0}, {"type": "pointerUp", "button": 0}]
+        finger = {"type": "pointer", "id": "finger", "parameters": {"pointerType": "touch"}, "actions": steps}
+        self.ask("POST", "actions", {"actions": [finger]})
+        # a tap is told to the page a little after the finger is up
+        self.run("new Promise(done => setTimeout(done, 60))")
+
+    def enter(self, selector: str) -> None:
+        """What is asked from now on is asked of the page within this frame."""
+        found = self.found(selector)
+        self.ask("POST", "frame", {"id": found, "element": found[ELEMENT]})
+        self.wait_for_start()
 
     def picture(self, file: Path) -> None:
         file.write_bytes(base64.b64decode(self.ask("GET", "screenshot")))
@@ -120,7 +143,7 @@ class Firefox(Driver):
     name = "Firefox"
     COMMANDS = {
         "execute/sync": "ExecuteScript", "url": "Navigate", "element": "FindElement", "screenshot": "TakeScreenshot",
-        "window/rect": "SetWindowRect",
+        "window/rect": "SetWindowRect", "frame": "SwitchToFrame", "actions": "PerformActions",
     }
 
     def __init__(self):
@@ -163,6 +186,8 @@ class Firefox(Driver):
         return value["value"] if isinstance(value, dict) and set(value) == {"value"} else value
 
     def ask(self, method: str, path: str, words: dict | None = None):
+        if path == "frame":
+            words = {"element": words["element"]}
         parts = path.split("/")
         if parts[0] == "element" and len(parts) == 3:
             return self.command("ElementClick", {"id": parts[1]})

@@ -1,10 +1,11 @@
 // What the page knows of the answer to a line, and what a hand that isn't whole still lacks.
 
 import { lackOfTiles, missingKeys } from "./asked.js";
-import { named } from "./names.js";
+import { isScript, named } from "./names.js";
 import { lineOf, wordsOf } from "./record.js";
 import { isHouse, profileOf } from "./rules.js";
 import { state } from "./state.js";
+import { phrase } from "./words.js";
 
 // A win: the library's answer names the rules.
 const ANY_WIN = "win 234m567m345p67s99s on=5s by=ron seat=S round=E";
@@ -13,7 +14,8 @@ const ANY_WIN = "win 234m567m345p67s99s on=5s by=ron seat=S round=E";
 export function answerTo(line, rules) {
   const { desk } = state;
   const by = wordsOf(line).keys.find(([key]) => key === "by")?.[1];
-  return { line, rules, by, text: desk.answer(line, rules), values: desk.values(line, rules), reasons: desk.explain(line, rules) };
+  const values = isScript() ? desk.reasons(line, rules) : desk.values(line, rules);
+  return { line, rules, by, text: desk.answer(line, rules), values, reasons: desk.explain(line, rules) };
 }
 
 // As the option --rules of the program takes them.
@@ -23,7 +25,7 @@ export function rulesText(rules) {
 
 // In a sentence.
 export function rulesWords(rules) {
-  return isHouse(rules) ? `Rules ${rulesText(rules)}` : `Rule profile ${rules}`;
+  return isHouse(rules) ? phrase("rules of", { rules: rulesText(rules) }) : phrase("profile of", { rules });
 }
 
 // The line above the hands of a text: of the rules of a house a comment, since no line sets them for the program.
@@ -33,10 +35,10 @@ export function rulesLines(rules) {
 }
 
 const LACKS = {
-  on: () => `the ${named("on").toLowerCase()}`,
-  by: () => `${named("ron").toLowerCase()} or ${named("tsumo").toLowerCase()}`,
-  seat: () => `the ${named("seat").toLowerCase()}`,
-  round: () => `the ${named("round").toLowerCase()}`,
+  on: () => phrase("the winning tile"),
+  by: () => phrase("ron or tsumo", { ron: named("ron").toLowerCase(), tsumo: named("tsumo").toLowerCase() }),
+  seat: () => phrase("the seat").toLowerCase(),
+  round: () => phrase("the round").toLowerCase(),
 };
 
 // What the record that is made still lacks, in words, one for each thing; none where the line was typed otherwise.
@@ -45,5 +47,5 @@ export function lacks() {
   if (line !== lineOf(record)) return [];
   const tiles = lackOfTiles(record);
   const keys = missingKeys(record).map((key) => LACKS[key]?.() ?? key);
-  return tiles > 0 ? [`${tiles} more ${tiles === 1 ? "tile" : "tiles"}`, ...keys] : keys;
+  return tiles > 0 ? [phrase(tiles === 1 ? "one more tile" : "more tiles", { number: tiles }), ...keys] : keys;
 }

@@ -2,8 +2,8 @@
 // lines and looks at how they are refused.
 
 import { state } from "./state.js";
-import { KINDS, range, textOf } from "./tiles.js";
-import { lineOf, textOfMelds } from "./record.js";
+import { KINDS, kindOf, range, textOf } from "./tiles.js";
+import { textOfMelds } from "./record.js";
 
 // A value of each key that a line may lack. Which one is said is all the same: a lack is refused before any value is looked at.
 const ANY = { on: "1m", by: "ron", seat: "E", round: "E" };
@@ -48,16 +48,39 @@ export function mostIndicators() {
   });
 }
 
+// Whether one of seven kinds is a dora by this indicator: then a hand of a pair of each has dora.
+function hasDora(kinds, indicator) {
+  const hand = textOf([...kinds, ...kinds.slice(1)]);
+  return state.desk.values(`win ${hand} on=${kinds[0]} by=ron seat=S round=E dora=${indicator}`, 1)?.dora > 0;
+}
+
+// The kind that is a dora by this indicator: one of the seven with which a hand has dora, and alone among others.
+export function doraOf(indicator) {
+  const kind = kindOf(indicator);
+  return remembered(`dora ${kind}`, () => {
+    const sevens = range(0, 4).map((at) => [...KINDS.filter((_, place) => place % 5 === at), KINDS[0]].slice(0, 7));
+    const others = (sevens.find((kinds) => !hasDora(kinds, kind)) ?? []).slice(0, 6);
+    const among = sevens.find((kinds) => hasDora(kinds, kind)) ?? [];
+    return among.find((it) => !others.includes(it) && hasDora([it, ...others], kind));
+  });
+}
+
 // Whether the library reads these tiles as a meld of this word.
 export function isMeld(word, tiles) {
   const text = `${word}:${textOf(tiles)}`;
   return remembered(text, () => keyOf(`waits 1m open=${text}`) !== "open");
 }
 
-// The keys that a record must have and hasn't, as the library names them one after another.
+// The keys that a record must have and hasn't, as the library names them one after another. Of those that it has, the values are all
+// the same.
 export function missingKeys(record) {
+  const said = Object.keys(ANY).filter((key) => record[key].length > 0);
+  return remembered(`missing ${record.job} ${said}`, () => missingBeside(record.job, said));
+}
+
+function missingBeside(job, said) {
   const found = [];
-  let line = lineOf({ ...record, hand: ["1m"] });
+  let line = [job, "1m", ...said.map((key) => `${key}=${ANY[key]}`)].join(" ");
   for (let key = missingKey(line); key && !found.includes(key); key = missingKey(line)) {
     found.push(key);
     line += ` ${key}=${ANY[key]}`;

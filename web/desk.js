@@ -3,6 +3,9 @@
 import { byId } from "./elements.js";
 import { facesOfAll } from "./faces.js";
 import { aim, changeLine, choose, clearAll, onChange, openHand, showForm, step, takeBack, takeTile, turnRed } from "./form.js";
+import { leaveGame, listenToGame, showGame } from "./game.js";
+import { gamePaper } from "./gamesheet.js";
+import { bringBackLost } from "./journal.js";
 import { listenToHands, listParts, showHands } from "./kept.js";
 import { Desk, lackOfBrowser } from "./library.js";
 import { listenToMany, manyParts, showMany } from "./many.js";
@@ -23,24 +26,31 @@ function refuseToRun(words) {
 
 // Shows a tab: a job, the many lines or the list of hands. All choices are kept.
 function showMode(chosen) {
-  const { line, rules, names, scheme, handId } = state;
+  if (chosen !== "game") leaveGame();
+  const { names, scheme } = state;
+  const { line, rules, handId } = state.aside ?? state;
   state.mode = chosen;
   writeChoices({ line, mode: chosen, rules, names, scheme, handId });
   byId("rules-now").textContent = rulesShort(rules);
   for (const input of document.querySelectorAll("#modes input")) input.checked = input.value === chosen;
-  byId("one").hidden = !JOBS.includes(chosen);
+  byId("one").hidden = !JOBS.includes(chosen) && state.aside === null;
+  byId("game").hidden = chosen !== "game";
   byId("many").hidden = chosen !== "many";
   byId("hands").hidden = chosen !== "hands";
+  if (chosen === "game" && state.aside === null) showGame();
   if (chosen === "many") showMany();
   if (chosen === "hands") showHands();
 }
 
-// After a change of the form or of a setting: the tab is that of the form's job, and what another tab shows is answered anew.
+// After a change of the form or of a setting: the tab is that of the form's job, and what another tab shows is answered anew. While a
+// hand of a game is tapped, the game keeps it.
 function afterChange() {
+  if (state.aside !== null) return;
   showMode(JOBS.includes(state.mode) ? state.record.job : state.mode);
 }
 
 function chooseMode({ target: { value } }) {
+  if (value !== "game") leaveGame();
   if (JOBS.includes(value) && value !== state.record.job) {
     setRecord({ ...state.record, job: value });
     state.handId = 0;
@@ -52,6 +62,7 @@ function chooseMode({ target: { value } }) {
 // Shows a hand from elsewhere in the form.
 function showHand(hand) {
   state.mode = "win";
+  leaveGame();
   openHand(hand);
   showSettings();
   byId("line").focus({ preventScroll: true });
@@ -82,7 +93,7 @@ function pasteLine(event) {
 // Puts on paper what is shown, where the browser's own menu prints the page.
 function fillPaper() {
   if (byId("paper").childElementCount > 0) return;
-  const parts = { many: manyParts, hands: listParts }[state.mode] ?? (() => handParts(state.line, state.rules));
+  const parts = { many: manyParts, hands: listParts, game: gamePaper }[state.mode] ?? (() => handParts(state.line, state.rules));
   byId("paper").replaceChildren(...parts());
 }
 
@@ -91,6 +102,7 @@ function listen() {
   on("fields", "change", choose);
   on("modes", "change", chooseMode);
   on("back", "click", takeBack);
+  on("undo", "click", takeBack);
   on("red", "click", turnRed);
   on("new", "click", clearAll);
   on("why", "click", () => openSheet(state.line, state.rules, state.handId));
@@ -102,6 +114,10 @@ function listen() {
   for (const dialog of document.querySelectorAll("dialog")) {
     dialog.querySelector(".close").addEventListener("click", () => dialog.close());
   }
+  addEventListener("tryline", ({ detail }) => {
+    byId("sheet").close();
+    changeLine(detail);
+  });
   addEventListener("hashchange", openLink);
   addEventListener("beforeprint", fillPaper);
   addEventListener("afterprint", () => byId("paper").replaceChildren());
@@ -115,13 +131,13 @@ function takeUp() {
   if (typeof line === "string") openHand({ line, rules: state.rules, id: Number(handId) || 0 });
   else setEmpty("win");
   state.past = [];
-  showMode([...JOBS, "many", "hands"].includes(mode) ? mode : "win");
+  showMode([...JOBS, "game", "many", "hands"].includes(mode) ? mode : "win");
 }
 
 async function start() {
   if (lackOfBrowser() !== "") return refuseToRun(lackOfBrowser());
   try {
-    state.desk = await Desk.start();
+    [state.desk] = await Promise.all([Desk.start(), bringBackLost()]);
   } catch (failure) {
     return refuseToRun(`The library doesn't start: ${failure.message}.`);
   }
@@ -133,6 +149,7 @@ async function start() {
   listenToMany(showHand);
   listenToHands(showHand);
   takeUp();
+  listenToGame();
   showSettings();
   onChange(afterChange);
   showForm();

@@ -63,6 +63,12 @@ export function tilesDrawn(tiles) {
   return make("span", { class: "drawn" }, ...tiles.map(tileImage));
 }
 
+// A hand as it lies: its tiles, the winning one, its melds.
+export function handDrawn({ hand, on, melds }) {
+  const groups = [hand, on, ...melds.map(({ tiles }) => tiles)].filter((tiles) => tiles.length > 0);
+  return make("p", { class: "hand-drawn" }, ...groups.map(tilesDrawn));
+}
+
 // A text in which each group of tiles, as 789m or chi:123m, is drawn.
 export function textWithTiles(text) {
   const parts = text.split(/((?:[0-9]+[mps]|[1-7]+z)+(?![0-9a-z]))/);

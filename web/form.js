@@ -1,8 +1,9 @@
 // The form: the hand that is made, and what the person does to it.
 
 import { answerTo, lacks } from "./answers.js";
-import { lackOfTiles } from "./asked.js";
+import { doraOf, lackOfTiles } from "./asked.js";
 import { byId, drawing, label, make, tileButton } from "./elements.js";
+import { moveTile, placeOfKind } from "./motion.js";
 import { nextTarget, taken, without, withoutMeld } from "./moves.js";
 import { named, tileName } from "./names.js";
 import { showPicker } from "./picker.js";
@@ -11,19 +12,30 @@ import { hasReds } from "./rules.js";
 import { shownWhole } from "./shown.js";
 import { setBack, setEmpty, setLine, setRecord, state } from "./state.js";
 import { keepHand } from "./store.js";
+import { sorted, tileOf } from "./tiles.js";
+import { listed, phrase } from "./words.js";
 
 // Called after each change; `desk.js` keeps the choices by it.
 let changed = () => {};
+// What tells the answer in place of the form, while a hand of a game is tapped.
+let tellInGame = null;
+
+export function answerInGame(tell) {
+  tellInGame = tell;
+}
 
 export function onChange(act) {
   changed = act;
 }
 
 export function takeTile(kind) {
-  const record = taken(state.record, state.target, kind, state.isRed);
+  const { record: before, target, isRed } = state;
+  const record = taken(before, target, kind, isRed);
   if (record === null) return;
-  setRecord(record, nextTarget(state.target));
+  const from = placeOfKind(kind);
+  setRecord(record, nextTarget(target));
   showForm();
+  moveTile(from, before, record, tileOf(kind, isRed));
 }
 
 export function takeBack() {
@@ -60,7 +72,27 @@ function takeOut(list, record) {
 
 function tileItem(list, name, tile, at) {
   const out = () => takeOut(list, without(state.record, name, at));
-  return make("li", {}, tileButton(tile, `Take out ${tileName(tile)}`, out));
+  return make("li", {}, tileButton(tile, phrase("take out tile", { tile: tileName(tile) }), out));
+}
+
+// An indicator, with the dora that it makes.
+function indicatorItem(name, tile, at) {
+  const dora = doraOf(tile);
+  const item = tileItem(name, name, tile, at);
+  if (dora === undefined) return item;
+  item.firstChild.append(make("span", { class: "tile makes" }, drawing(dora)));
+  label(item.firstChild, phrase("makes dora", { tile: tileName(tile), dora: tileName(dora) }));
+  return item;
+}
+
+// A tile of a hand. In a whole hand a tap makes it the winning one, which the next tap takes out.
+function tileOfHand(tile, at) {
+  const { record } = state;
+  if (record.job !== "win" || record.on.length === 0) return tileItem("tray", "hand", tile, at);
+  const [winning] = record.on;
+  const hand = sorted([...record.hand.filter((_, place) => place !== at), winning]);
+  const choose = () => takeOut("tray", { ...record, hand, on: [tile] });
+  return make("li", {}, tileButton(tile, phrase("make winning", { tile: tileName(tile) }), choose));
 }
 
 function emptySlot(word = "") {
@@ -68,7 +100,7 @@ function emptySlot(word = "") {
 }
 
 function meldItem({ word, tiles }, at) {
-  const name = `Take out ${named(word)}: ${tiles.map(tileName).join(", ")}`;
+  const name = phrase("take out tile", { tile: `${named(word)} ${listed(tiles.map(tileName))}` });
   const faces = tiles.map((tile) => make("span", { class: "tile" }, drawing(tile)));
   const mark = make("span", { class: "meld-word" }, named(word));
   const press = () => takeOut("tray", withoutMeld(state.record, at));
@@ -78,19 +110,33 @@ function meldItem({ word, tiles }, at) {
 // The hand, the tiles that it still lacks as empty places, the winning tile and the melds.
 function showTray() {
   const { record } = state;
-  const hand = record.hand.map((tile, at) => tileItem("tray", "hand", tile, at));
+  const hand = record.hand.map(tileOfHand);
   const lacking = Array.from({ length: lackOfTiles(record) }, () => emptySlot());
   const winning = record.on.map((tile, at) => tileItem("tray", "on", tile, at));
-  if (winning.length === 0) winning.push(emptySlot("win"));
+  if (winning.length === 0) winning.push(emptySlot(phrase("slot win")));
   for (const item of winning) {
     item.classList.add("winning");
     item.dataset.field = "on";
+    const button = item.querySelector("button");
+    if (button) label(button, phrase("is winning", { words: button.getAttribute("aria-label") }));
   }
   const melds = record.melds.map(meldItem);
   byId("tray").replaceChildren(...hand, ...lacking, ...(record.job === "win" ? winning : []), ...melds);
-  for (const name of ["dora", "ura", "seen"]) {
-    byId(name).replaceChildren(...record[name].map((tile, at) => tileItem(name, name, tile, at)));
-  }
+  for (const name of ["dora", "ura"]) byId(name).replaceChildren(...record[name].map((tile, at) => indicatorItem(name, tile, at)));
+  byId("seen").replaceChildren(...record.seen.map((tile, at) => tileItem("seen", "seen", tile, at)));
+}
+
+// Whether no tile is wanted any more.
+function isFull() {
+  const { record, target } = state;
+  return record.job === "win" && target === "hand" && record.on.length > 0 && lackOfTiles(record) === 0;
+}
+
+// Where the tiles make place for the answer, the focus goes to it.
+function showFull() {
+  const hadFocus = byId("picker").contains(document.activeElement);
+  byId("one").dataset.full = isFull() ? "yes" : "no";
+  if (hadFocus && !document.activeElement.checkVisibility()) byId("answer").focus({ preventScroll: true });
 }
 
 // Sets each choice to what the record says, and hides what its job doesn't ask for.
@@ -121,27 +167,30 @@ function showFault(field) {
 // What is said while a tap goes elsewhere than into the hand.
 function targetHelp() {
   const word = named(state.target);
-  if (state.target === "chi") return `${word}: tap the lowest tile of the run.`;
-  if (MELD_WORDS.includes(state.target)) return `${word}: tap its tile.`;
-  return state.target === "hand" ? "" : `${word}: tap the tiles.`;
+  if (state.target === "chi") return phrase("chi help", { word });
+  if (MELD_WORDS.includes(state.target)) return phrase("meld help", { word });
+  if (["dora", "ura"].includes(state.target)) return phrase("indicator help", { word });
+  return state.target === "hand" ? "" : phrase("tiles help", { word });
 }
 
 function showAnswer() {
+  if (state.aside !== null) return tellInGame();
   const { line, rules, record } = state;
   const lacking = lacks();
   const help = targetHelp() === "" ? [] : [make("p", { class: "lacking" }, targetHelp())];
-  const about = answerTo(line, rules);
-  byId("why").disabled = lacking.length > 0 || about.values === null;
   showFault("");
+  byId("why").disabled = true;
   if (lacking.length > 0) {
-    const wanted = record.hand.length === 0 ? "Tap the tiles of the hand" : "Still wanted";
-    byId("answer").replaceChildren(...help, make("p", { class: "lacking" }, `${wanted}: ${lacking.join(", ")}.`));
+    const wanted = phrase(record.hand.length === 0 ? "tap the hand" : "lacking", { what: listed(lacking) });
+    byId("answer").replaceChildren(...help, make("p", { class: "lacking" }, wanted));
     return;
   }
+  const about = answerTo(line, rules);
   if (about.values === null) {
-    byId("answer").replaceChildren(make("p", {}, "Tap the tiles of a hand, or type or paste its line."));
+    byId("answer").replaceChildren(make("p", {}, phrase("tap or type")));
     return;
   }
+  byId("why").disabled = false;
   byId("answer").replaceChildren(...help, ...shownWhole(about.values, about));
   if (about.values.answer !== "refused") state.handId = keepHand(state.handId, line, rules);
   else showFault(document.querySelector(`[data-field="${about.values.key}"]`) ? about.values.key : "line");
@@ -153,6 +202,7 @@ export function showForm() {
   showTray();
   showPicker();
   showAnswer();
+  showFull();
   changed();
 }
 
@@ -194,6 +244,11 @@ export function showNames() {
     it.textContent = named(it.dataset.name);
     it.lang = state.names === "script" ? "ja" : "en";
   }
+  for (const it of document.querySelectorAll("[data-phrase]")) {
+    it.textContent = phrase(it.dataset.phrase);
+    it.lang = state.names === "script" ? "ja" : "en";
+  }
+  for (const it of document.querySelectorAll("[data-says]")) it.setAttribute("aria-label", phrase(it.dataset.says));
   for (const it of document.querySelectorAll("[data-target], #red")) it.title = it.textContent;
   label(byId("dealer"), `${named("E")}, ${named("dealer")}`);
 }

@@ -1,20 +1,22 @@
 // The list of the last hands, with their answers and names.
 
 import { answerTo, rulesWords } from "./answers.js";
-import { byId, make, say, textWithTiles } from "./elements.js";
+import { byId, handDrawn, make, say, textWithTiles } from "./elements.js";
 import { clearAll } from "./form.js";
+import { recordOf } from "./record.js";
 import { copyText, handsOfText, printOnly, saveFile, textOfHands } from "./share.js";
 import { openSheet } from "./sheet.js";
 import { shownAnswer } from "./shown.js";
 import { state } from "./state.js";
 import { addHands, MOST_HANDS, nameHand, putHandBack, readHands, removeHand } from "./store.js";
+import { phrase } from "./words.js";
 
 let openKept = () => {};
 // Hands that were taken away, the last one at the end.
 const gone = [];
 
 function handTitle({ name }, at) {
-  return name === "" ? `hand ${at + 1}` : name;
+  return name === "" ? phrase("hand number", { number: at + 1 }) : name;
 }
 
 function takeAway(hand) {
@@ -22,7 +24,7 @@ function takeAway(hand) {
   gone.push(hand);
   if (state.handId === hand.id) clearAll();
   showHands();
-  say("The hand is taken away.");
+  say(phrase("hand gone"));
   byId("hands-undo").focus();
 }
 
@@ -35,30 +37,33 @@ function shortAnswer({ line, rules }) {
 
 function handItem(hand, at) {
   const title = handTitle(hand, at);
-  const button = (text, label, click) => make("button", { type: "button", "aria-label": `${label} ${title}`, click }, text);
-  const about = { "aria-label": `Table and round of ${title}`, placeholder: "Table and round", value: hand.name };
+  const button = (text, label, click) => make("button", { type: "button", "aria-label": `${label}: ${title}`, click }, text);
+  const about = { "aria-label": phrase("table of", { title }), placeholder: phrase("table and round"), value: hand.name };
   const name = make("input", { type: "text", maxlength: "60", ...about });
+  const record = recordOf(hand.line);
+  const drawn = record === null || record.hand.length === 0 ? [] : [handDrawn(record)];
   name.addEventListener("input", () => nameHand(hand.id, name.value));
   return make(
     "li",
     { "data-id": String(hand.id) },
     name,
-    make("p", { class: "raw" }, hand.line),
+    ...drawn,
+    make("p", { class: drawn.length > 0 ? "raw heard" : "raw" }, hand.line),
     ...shortAnswer(hand),
     make(
       "div",
       { class: "buttons" },
-      button("Open", "Open", () => openKept(hand)),
-      button("Why", "Why: the answer to", () => openSheet(hand.line, hand.rules, hand.id)),
-      button("Take away", "Take away", () => takeAway(hand)),
+      button(phrase("open"), phrase("open"), () => openKept(hand)),
+      button(phrase("why"), phrase("why"), () => openSheet(hand.line, hand.rules, hand.id)),
+      button(phrase("take away"), phrase("take away"), () => takeAway(hand)),
     ),
   );
 }
 
 export function showHands() {
   const hands = readHands();
-  const none = `No hands yet. The last ${MOST_HANDS} that were answered stand here.`;
-  const some = `${hands.length} of the last ${MOST_HANDS} hands, the newest first.`;
+  const none = phrase("no hands", { most: MOST_HANDS });
+  const some = phrase("some hands", { number: hands.length, most: MOST_HANDS });
   byId("hands-count").textContent = hands.length === 0 ? none : some;
   byId("hand-list").replaceChildren(...hands.map(handItem));
   for (const id of ["hands-copy", "hands-save", "hands-print"]) byId(id).disabled = hands.length === 0;
@@ -70,8 +75,8 @@ function textAndRest() {
   const hands = readHands().reverse();
   const chosen = hands.filter(({ rules }) => rules === state.rules);
   const rest = hands.length - chosen.length;
-  const others = rest === 0 ? "" : `; the ${rest} of the other rule profile aren't among them`;
-  return { text: textOfHands(chosen, state.rules), words: `${chosen.length} lines${others}.` };
+  const others = rest === 0 ? "" : phrase("hands of others", { number: rest });
+  return { text: textOfHands(chosen, state.rules), words: phrase("so many lines", { number: chosen.length, others }) };
 }
 
 async function openHands({ target }) {
@@ -81,7 +86,7 @@ async function openHands({ target }) {
   target.value = "";
   addHands(hands.reverse());
   showHands();
-  say(`${hands.length} hands are opened.`);
+  say(phrase("hands opened", { number: hands.length }));
 }
 
 // The list, as paper shows it.
@@ -90,7 +95,7 @@ export function listParts() {
     const name = hand.name === "" ? [] : [make("h3", {}, hand.name)];
     return make("li", {}, ...name, make("p", {}, ...textWithTiles(hand.line)), ...shortAnswer(hand));
   });
-  return [make("h2", {}, "Hands"), make("ol", {}, ...items)];
+  return [make("h2", {}, phrase("tab hands")), make("ol", {}, ...items)];
 }
 
 // `openHand` shows a hand in the form.
@@ -99,18 +104,18 @@ export function listenToHands(openHand) {
   const on = (id, sort, act) => byId(id).addEventListener(sort, act);
   on("hands-copy", "click", () => {
     const { text, words } = textAndRest();
-    copyText(text, `Copied: ${words}`);
+    copyText(text, `${phrase("copied")} ${words}`);
   });
   on("hands-save", "click", () => {
     const { text, words } = textAndRest();
     saveFile("riichi-hands.lines", text);
-    say(`Saved: ${words}`);
+    say(`${phrase("saved")} ${words}`);
   });
   on("hands-file", "change", openHands);
   on("hands-print", "click", () => printOnly(...listParts()));
   on("hands-undo", "click", () => {
     putHandBack(gone.pop());
     showHands();
-    say("The hand is back.");
+    say(phrase("hand back"));
   });
 }

@@ -1,7 +1,13 @@
 // The proved library: its module, and its calls. Sizes and places are 64-bit numbers there, though its memory has 32-bit places.
 
+import { ledgerOf } from "./ledger.js";
+
 const PAGE = 65536;
 const MOST_LINE = 4098;
+// What a call is given has so many pages of the memory, and what it tells two more.
+const GIVEN_PAGES = 4;
+// A text of games is no longer.
+const MOST_GAME = GIVEN_PAGES * PAGE;
 
 // What this browser lacks of what the module needs, in words; "" where nothing is known to be lacking.
 export function lackOfBrowser() {
@@ -14,13 +20,14 @@ export function lackOfBrowser() {
   return "";
 }
 
-// The module's bytes: inside this page, or beside it.
-async function bytesOfModule() {
+// The module, inside this page or beside it, compiled once, and while it comes where the host says what it is.
+async function compiledModule() {
   const inside = document.getElementById("module");
-  if (inside) return Uint8Array.from(atob(inside.textContent.trim()), (letter) => letter.charCodeAt(0));
+  if (inside) return WebAssembly.compile(Uint8Array.from(atob(inside.textContent.trim()), (letter) => letter.charCodeAt(0)));
   const told = await fetch("riichi_desk.wasm");
   if (!told.ok) throw new Error(`the file riichi_desk.wasm isn't there (${told.status})`);
-  return new Uint8Array(await told.arrayBuffer());
+  const isStreamed = told.headers.get("content-type") === "application/wasm" && WebAssembly.compileStreaming !== undefined;
+  return isStreamed ? WebAssembly.compileStreaming(told) : WebAssembly.compile(await told.arrayBuffer());
 }
 
 // The desk over the exports of the module: each call puts a line into the module's memory and reads what was answered.
@@ -31,15 +38,29 @@ export class Desk {
 
   constructor(exports) {
     this.#exports = exports;
-    this.#line = exports.memory.grow(2) * PAGE;
-    this.#room = this.#line + PAGE;
+    this.#line = exports.memory.grow(GIVEN_PAGES + 2) * PAGE;
+    this.#room = this.#line + MOST_GAME;
+    this.ledger = ledgerOf(this.#places());
+  }
+
+  // What the class of games is made over. The module's memory stays as it is from now on.
+  #places() {
+    const { buffer } = this.#exports.memory;
+    const tested = (rules) => {
+      if (this.#ask("answer", "", rules) !== "") throw new RangeError(`no rules are ${rules}`);
+    };
+    const places = { calls: this.#exports, LINE: this.#line, ROOM: this.#room, tested };
+    return { ...places, memory: new Uint8Array(buffer), view: new DataView(buffer) };
   }
 
   static async start() {
-    const bytes = await bytesOfModule();
-    if (!WebAssembly.validate(bytes)) throw new Error("its WebAssembly is too old: browsers since 2021 have what is needed");
-    const { instance } = await WebAssembly.instantiate(bytes, {});
-    return new Desk(instance.exports);
+    try {
+      const instance = await WebAssembly.instantiate(await compiledModule(), {});
+      return new Desk(instance.exports);
+    } catch (failure) {
+      if (!(failure instanceof WebAssembly.CompileError)) throw failure;
+      throw new Error("its WebAssembly is too old: browsers since 2021 have what is needed");
+    }
   }
 
   #read(needed) {
@@ -65,9 +86,34 @@ export class Desk {
     return JSON.parse(this.#ask("json", line, rules) || "null");
   }
 
+  // The answer's values, those of a win with its reasons.
+  reasons(line, rules) {
+    return JSON.parse(this.#ask("explain_json", line, rules) || "null");
+  }
+
   // The lines that say why the answer is what it is.
   explain(line, rules) {
     return this.#ask("explain", line, rules).split("\n").filter((it) => it !== "");
+  }
+
+  // What the command `game` answers to a text of games; null where it is too long for a phone.
+  game(text) {
+    const bytes = new TextEncoder().encode(text);
+    if (bytes.length > MOST_GAME) return null;
+    const { memory } = this.#exports;
+    const [line, length, room] = [this.#line, bytes.length, this.#room].map(BigInt);
+    const taken = this.#room + PAGE;
+    const pieces = [];
+    for (let from = 0n; from <= length; from = new DataView(memory.buffer).getBigUint64(taken, true)) {
+      new Uint8Array(memory.buffer).set(bytes, this.#line);
+      pieces.push(this.#read(this.#exports.riichi_game_lines(1, line, length, from, room, BigInt(PAGE), BigInt(taken))));
+    }
+    return pieces.join("");
+  }
+
+  // The base points of a hand of so many han and fu, won by ron (0) or self-draw (1); 0 where no hand has so many.
+  baseOf(rules, by, han, fu) {
+    return this.#exports.riichi_game_base(rules, by, han, fu);
   }
 
   // The number of the rules that a text such as `2` or `1+red-fives-ura` names; undefined where it names none.

@@ -1,13 +1,15 @@
 // Many lines: each with its answer, as the command `line` gives them.
 
 import { rulesText } from "./answers.js";
-import { byId, make } from "./elements.js";
-import { linesOf } from "./record.js";
-import { isHouse } from "./rules.js";
+import { byId, handDrawn, make } from "./elements.js";
+import { linesOf, recordOf } from "./record.js";
 import { copyText } from "./share.js";
 import { state } from "./state.js";
+import { phrase } from "./words.js";
 
 const MOST_SHOWN = 5000;
+// Of more lines the hands aren't drawn.
+const MOST_DRAWN = 100;
 let openLine = () => {};
 
 // The lines of the text that have an answer, with their numbers and answers.
@@ -17,29 +19,31 @@ function answers() {
   return found.filter(({ told }) => told !== "");
 }
 
-function answerItem({ number, line, told, rules }) {
+function answerItem({ number, line, told, rules }, _, { length }) {
+  const record = length > MOST_DRAWN ? null : recordOf(line);
+  const drawn = record === null || record.hand.length === 0 ? [] : [handDrawn(record)];
   const open = () => openLine({ line, rules, id: 0 });
   return make(
     "li",
     told.startsWith("refused") ? { class: "is-refused" } : {},
     make("span", { class: "number" }, String(number)),
-    make("div", {}, make("div", { class: "raw" }, line), make("div", { class: "told" }, told)),
-    make("button", { type: "button", "aria-label": `Open line ${number} in the form`, click: open }, "Open"),
+    make("div", {}, make("div", { class: "raw" }, line), ...drawn, make("div", { class: "told" }, told)),
+    make("button", { type: "button", "aria-label": `${phrase("open")}: ${phrase("line number", { number })}`, click: open }, phrase("open")),
   );
 }
 
 export function showMany() {
   const found = answers();
   const refused = found.filter(({ told }) => told.startsWith("refused")).length;
-  const more = found.length > MOST_SHOWN ? `, of which the first ${MOST_SHOWN} are shown` : "";
-  byId("many-count").textContent = found.length === 0 ? "No lines yet." : `${found.length} answers${more}, ${refused} refused.`;
+  const more = found.length > MOST_SHOWN ? phrase("first shown", { number: MOST_SHOWN }) : "";
+  byId("many-count").textContent = found.length === 0 ? phrase("no lines") : phrase("answers", { number: found.length, more, refused });
   byId("answers").replaceChildren(...found.slice(0, MOST_SHOWN).map(answerItem));
 }
 
 // The lines and their answers, as paper shows them.
 export function manyParts() {
   const items = answers().map(({ line, told }) => make("li", {}, make("p", { class: "raw" }, line), make("p", {}, told)));
-  return [make("h2", {}, isHouse(state.rules) ? `Lines, under the rules ${rulesText(state.rules)}` : `Lines, under rule profile ${state.rules}`), make("ol", {}, ...items)];
+  return [make("h2", {}, phrase("lines under", { rules: rulesText(state.rules) })), make("ol", {}, ...items)];
 }
 
 async function openFile({ target }) {

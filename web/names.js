@@ -11,6 +11,10 @@ export function speak(name) {
   tongue = TONGUES.includes(name) ? name : "english";
 }
 
+export function isScript() {
+  return tongue === "script";
+}
+
 // Of each yaku: romanised, and in script. The first is the word of the answers.
 const YAKU = {
   "riichi": ["riichi", "立直"],
@@ -99,6 +103,7 @@ const WORDS = {
   ready: ["Ready", "Tenpai", "聴牌"],
   dealer: ["the dealer", "oya", "親"],
   hand: ["Hand", "Tehai", "手牌"],
+  game: ["Game", "Game", "対局"],
 };
 
 // Phrases of an explanation, romanised and in script; longer ones stand before those that they hold.
@@ -180,7 +185,7 @@ export function yakuName(word, by) {
 }
 
 export function shantenWords(shanten) {
-  if (shanten < 0) return "Complete";
+  if (shanten < 0) return inTongue(["Complete", "Agari", "和了形"]);
   if (shanten === 0) return named("ready");
   const away = inTongue([`${shanten} ${shanten === 1 ? "tile" : "tiles"} from ready`, `${shanten}-shanten`, `${shanten}向聴`]);
   return shanten === 1 && tongue !== "english" ? inTongue(["", "Iishanten", "一向聴"]) : away;

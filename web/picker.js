@@ -6,9 +6,13 @@ import { digitName, named, tileName } from "./names.js";
 import { MELD_WORDS } from "./record.js";
 import { state } from "./state.js";
 import { KINDS, SUITS, tileOf } from "./tiles.js";
+import { phrase } from "./words.js";
 
 // On a narrow screen the suits are columns, and the arrow keys go otherwise.
 const isWide = matchMedia("(min-width: 40rem)");
+
+// What each button shows.
+const shownOn = new Map();
 
 export function makePicker(take, back) {
   const rows = SUITS.map((suit) => KINDS.filter((kind) => kind[1] === suit).map((kind) => pickerButton(kind, take)));
@@ -68,19 +72,24 @@ function wordsOfTap(kind, { target, isRed }) {
   const name = tileName(tileOf(kind, isRed));
   if (!MELD_WORDS.includes(target)) return name;
   const digits = meldTiles(target, kind, isRed).map(digitName).join(" ");
-  return target === "chi" ? `${named(target)} ${digits}, from ${name} on` : `${named(target)}: ${name}`;
+  return target === "chi" ? phrase("run from", { word: named(target), digits, tile: name }) : `${named(target)}: ${name}`;
 }
 
-// Shows what each button would take now, and marks those that can't be taken.
+// Shows what each button would take now, and marks those that can't be taken. What is shown already is left as it is.
 export function showPicker() {
   const { record, target, isRed } = state;
   const hasMelds = MELD_WORDS.includes(target);
   for (const button of pickerButtons()) {
     const { kind } = button.dataset;
     const isFree = taken(record, target, kind, isRed) !== null;
+    const meld = hasMelds && isFree ? meldTiles(target, kind, isRed).map((it) => it[0]).join("") : "";
+    const [name, tile] = [wordsOfTap(kind, state), tileOf(kind, isRed)];
+    const shown = [isFree, meld, name, tile].join("|");
+    if (shown === shownOn.get(button)) continue;
+    shownOn.set(button, shown);
     button.setAttribute("aria-disabled", String(!isFree));
-    label(button, wordsOfTap(kind, state));
-    button.dataset.meld = hasMelds && isFree ? meldTiles(target, kind, isRed).map((it) => it[0]).join("") : "";
-    button.querySelector("use").setAttribute("href", `#face-${tileOf(kind, isRed)}`);
+    label(button, name);
+    button.dataset.meld = meld;
+    button.querySelector("use").setAttribute("href", `#face-${tile}`);
   }
 }

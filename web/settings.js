@@ -2,10 +2,11 @@
 
 import { byId, make } from "./elements.js";
 import { showForm, showNames } from "./form.js";
-import { speak } from "./names.js";
+import { isScript, speak } from "./names.js";
 import { hasRule, houseOf, isHouse, RULES, rulesShort, withRule } from "./rules.js";
 import { state } from "./state.js";
 import { isKept } from "./store.js";
+import { phrase } from "./words.js";
 
 const isDark = matchMedia("(prefers-color-scheme: dark)");
 
@@ -16,51 +17,61 @@ function showScheme() {
   document.querySelector("meta[name=theme-color]").content = ground;
 }
 
+// The rules that are chosen for the page, whatever the game plays whose hand is tapped.
+function holder() {
+  return state.aside ?? state;
+}
+
 // Takes the state's choices for the whole page.
 export function showSettings() {
+  const { rules } = holder();
   speak(state.names);
   showScheme();
   showNames();
-  const chosen = { rules: isHouse(state.rules) ? "house" : String(state.rules), names: state.names, scheme: state.scheme };
+  const chosen = { rules: isHouse(rules) ? "house" : String(rules), names: state.names, scheme: state.scheme };
   for (const [name, value] of Object.entries(chosen)) {
     for (const input of document.querySelectorAll(`#settings input[name=${name}]`)) input.checked = input.value === value;
   }
-  byId("house").hidden = !isHouse(state.rules);
-  for (const input of document.querySelectorAll("#house input")) input.checked = hasRule(state.rules, Number(input.value));
-  byId("rules-now").textContent = rulesShort(state.rules);
+  for (const it of document.querySelectorAll("#house span")) {
+    it.textContent = isScript() ? it.dataset.inJapanese : it.dataset.inEnglish;
+    it.lang = isScript() ? "ja" : "en";
+  }
+  byId("house").hidden = !isHouse(rules);
+  for (const input of document.querySelectorAll("#house input")) input.checked = hasRule(rules, Number(input.value));
+  byId("rules-now").textContent = rulesShort(rules);
 }
 
 // A box for each rule that a house may choose.
 function ruleBoxes() {
-  return RULES.map(([word, says], place) => {
+  return RULES.map(([word, ...says], place) => {
     const box = make("input", { type: "checkbox", name: "rule", value: String(place), "data-rule": word });
-    return make("label", { class: "rule" }, box, make("span", {}, says));
+    return make("label", { class: "rule" }, box, make("span", { "data-in-english": says[0], "data-in-japanese": says[1] }));
   });
 }
 
 const chosenRules = {
-  rules: (value) => (value === "house" ? houseOf(state.rules) : Number(value)),
-  rule: (value, isOn) => withRule(state.rules, Number(value), isOn),
+  rules: (value) => (value === "house" ? houseOf(holder().rules) : Number(value)),
+  rule: (value, isOn) => withRule(holder().rules, Number(value), isOn),
 };
 
 function chooseSetting({ target: { name, value, checked } }) {
   const choose = chosenRules[name];
-  if (choose) state.rules = choose(value, checked);
+  if (choose) holder().rules = choose(value, checked);
   else state[name] = value;
   showSettings();
   showForm();
 }
 
-function fact(word, text) {
-  return [make("dt", {}, word), make("dd", {}, text)];
+// A fact about the page: its word, and its text, which is a phrase where it has a key.
+function fact(word, text, key) {
+  return [make("dt", { "data-phrase": word }, phrase(word)), make("dd", key === undefined ? {} : { "data-phrase": key }, text)];
 }
 
 export function listenToSettings() {
   byId("house").append(...ruleBoxes());
   const about = byId("about");
-  const unkept = "not kept: this browser doesn't allow it, so a reload loses them";
-  const kept = isKept() ? "in this browser alone, over a reload" : unkept;
-  about.prepend(...fact("Version", state.desk.version()), ...fact("Hands and settings", kept));
+  const kept = isKept() ? "kept here" : "kept nowhere";
+  about.prepend(...fact("version", state.desk.version()), ...fact("hands and settings", phrase(kept), kept));
   byId("open-settings").addEventListener("click", () => {
     showSettings();
     byId("settings").showModal();

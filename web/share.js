@@ -4,6 +4,7 @@ import { rulesLines } from "./answers.js";
 import { byId, say } from "./elements.js";
 import { linesOf } from "./record.js";
 import { state } from "./state.js";
+import { phrase } from "./words.js";
 
 const MOST_NAME = 60;
 
@@ -40,12 +41,12 @@ export function linkOf(line, rules) {
   return location.protocol === "file:" ? "" : location.href.split("#")[0] + hashOf(line, rules);
 }
 
-export async function copyText(text, words = "Copied.") {
+export async function copyText(text, words = phrase("copied")) {
   try {
     await navigator.clipboard.writeText(text);
     say(words);
   } catch {
-    say(copyByHand(text) ? words : "This browser doesn't let a page copy.");
+    say(copyByHand(text) ? words : phrase("can’t copy"));
   }
 }
 
@@ -64,11 +65,11 @@ function copyByHand(text) {
 export async function share(title, text, url) {
   const parts = { title, text, ...(url === "" ? {} : { url }) };
   const whole = [text, url].filter((it) => it !== "").join("\n");
-  if (!navigator.share) return copyText(whole, "Copied, since this browser can't share.");
+  if (!navigator.share) return copyText(whole, phrase("copied instead"));
   try {
     await navigator.share(parts);
   } catch (failure) {
-    if (failure.name !== "AbortError") say("Sharing failed.");
+    if (failure.name !== "AbortError") say(phrase("sharing failed"));
   }
 }
 

@@ -2,95 +2,90 @@
 
 import { make, textWithTiles, tileImage } from "./elements.js";
 import { named, shantenWords, spoken, yakuName } from "./names.js";
-
-const FIELD_NAMES = {
-  line: "the line", hand: "the hand", on: "the winning tile", open: "the melds", by: "ron or self-draw", seat: "the seat wind",
-  round: "the round wind", riichi: "riichi", flags: "the circumstances", dora: "the dora indicators", ura: "the ura indicators",
-  counters: "the counters", sticks: "the riichi sticks", seen: "the tiles seen elsewhere",
-};
-
-// A number of points, with a thin space before its thousands.
-function points(number) {
-  return String(number).replace(/\B(?=([0-9]{3})+$)/g, "\u202f");
-}
+import { points, signed } from "./numbers.js";
+import { wordsOf } from "./record.js";
+import { rowsOfReasons } from "./reasons.js";
+import { shownRefusal } from "./refusal.js";
+import { phrase } from "./words.js";
 
 function payWords({ discarder, dealer, each_other: other, each }) {
-  if (discarder !== undefined) return `${points(discarder)} from the discarder`;
-  if (each !== undefined) return `${points(each)} from each player`;
-  return `${points(dealer)} from ${named("dealer")}, ${points(other)} each from two others`;
+  if (discarder !== undefined) return phrase("from the discarder", { points: points(discarder) });
+  if (each !== undefined) return phrase("from each", { points: points(each) });
+  return phrase("from dealer", { dealer: points(dealer), others: points(other) });
 }
 
 // The number of han and fu, and the limit that they reach.
 function sizeWords({ yakuman, han, fu, limit }) {
   if (yakuman) return named("yakuman");
-  const size = `${han} han, ${fu} fu`;
+  const size = phrase("han, fu", { han, fu });
   return limit ? `${named(limit === "yakuman" ? "kazoe" : limit)}: ${size}` : size;
 }
 
-function shownWin(answer, { by }) {
+// Who pays a self-draw, seat by seat as the four sit, the winner at the lower edge: next in turn to the right, then across, then to
+// the left.
+function shownSeats({ payment, gain }, { line }) {
+  const seat = "ESWN".indexOf(wordsOf(line).keys.find(([key]) => key === "seat")?.[1]);
+  if (payment.discarder !== undefined || seat < 0) return [];
+  const paid = (wind) => payment.each ?? (wind === "E" ? payment.dealer : payment.each_other);
+  const others = [["right", "←"], ["across", "↓"], ["left", "→"]].map(([place, arrow], at) => {
+    const wind = "ESWN"[(seat + at + 1) % 4];
+    return make("span", { class: place }, `${named(wind)} `, make("span", { class: "amount" }, `${points(-paid(wind))} ${arrow}`));
+  });
+  const winner = make("span", { class: "winner" }, `${named("ESWN"[seat])} ${signed(gain)}`);
+  return [make("div", { class: "seats-drawn", "aria-hidden": "true" }, ...others, winner)];
+}
+
+function shownWin(answer, about) {
+  const { by } = about;
   const yaku = answer.yaku.map(({ word }) => make("li", {}, yakuName(word, by)));
   if (answer.dora > 0) yaku.push(make("li", {}, `${named("dora")} ${answer.dora}`));
   return [
-    make("p", { class: "headline" }, `${points(answer.gain)} points`),
+    make("p", { class: "headline" }, phrase("headline points", { points: points(answer.gain) })),
     make("p", {}, `${sizeWords(answer)} \u2022 ${payWords(answer.payment)}`),
-    make("ul", { class: "yaku", "aria-label": "Yaku" }, ...yaku),
+    make("ul", { class: "yaku", "aria-label": phrase("yaku") }, ...yaku),
+    ...shownSeats(answer, about),
   ];
 }
 
 function shownWaits({ kinds }) {
-  if (kinds.length === 0) return [make("p", { class: "headline" }, "No waits")];
+  if (kinds.length === 0) return [make("p", { class: "headline" }, phrase("no waits"))];
   return [
-    make("p", { class: "headline" }, `Waits for ${kinds.length} ${kinds.length === 1 ? "kind" : "kinds"}`),
-    make("ul", { class: "accepted", "aria-label": "Waits" }, ...kinds.map((kind) => make("li", {}, tileImage(kind)))),
+    make("p", { class: "headline" }, phrase(kinds.length === 1 ? "waits for one" : "waits for", { number: kinds.length })),
+    make("ul", { class: "accepted", "aria-label": phrase("waits") }, ...kinds.map((kind) => make("li", {}, tileImage(kind)))),
   ];
 }
 
 // Accepted kinds, each with the number of its live copies.
 function acceptedList(accepts) {
-  if (accepts.length === 0) return make("p", {}, "accepts nothing");
+  if (accepts.length === 0) return make("p", {}, phrase("accepts nothing"));
   const items = accepts.map(({ kind, live }) => make("li", {}, tileImage(kind), make("span", {}, `×${live}`)));
-  return make("ul", { class: "accepted", "aria-label": "Accepted tiles" }, ...items);
+  return make("ul", { class: "accepted", "aria-label": phrase("accepted") }, ...items);
 }
 
 function discardItem({ discard, accepts, live }) {
-  return make("li", {}, tileImage(discard), make("span", {}, `${live} live`), acceptedList(accepts));
+  return make("li", {}, tileImage(discard), make("span", {}, phrase("live", { number: live })), acceptedList(accepts));
 }
 
 function shownShape({ shanten, discards, accepts, live }) {
   const head = make("p", { class: "headline" }, shantenWords(shanten));
-  if (!discards) return [head, make("p", {}, `Accepts ${accepts.length} kinds, ${live} live tiles`), acceptedList(accepts)];
+  if (!discards) return [head, make("p", {}, phrase("accepts", { number: accepts.length, live })), acceptedList(accepts)];
   if (discards.length === 0) return [head];
   const list = make("ol", { class: "discards" }, ...discards.map(discardItem));
-  return [head, make("p", {}, "Discard, and what is then accepted:"), list];
-}
-
-// The text of tiles in which a fault stands, with its place marked.
-function placeShown({ place, at, length }, line) {
-  const word = line.slice(at, at + length);
-  const text = word.slice(word.indexOf("=") + 1);
-  const mark = make("span", { class: "place" }, text.slice(place, place + 1) || "its end");
-  return make("p", { class: "raw" }, text.slice(0, place), mark, text.slice(place + 1));
-}
-
-// What a refusal says: what may stand there, behind the word at fault where its place isn't shown, and what else is known of the line.
-function saidOf({ at = 0, length = 0, place, words }, { line, reasons }) {
-  const word = place === undefined ? line.slice(at, at + length).trim() : "";
-  const known = reasons.slice(reasons.findIndex((row) => row.endsWith(words)) + 1);
-  return [word === "" ? words : `${word}: ${words}`, ...known.map((row) => row.trim())];
-}
-
-function shownRefusal(answer, about) {
-  const box = make("div", { class: "refused" }, make("p", { class: "headline" }, "Refused"));
-  box.append(...saidOf(answer, about).map((row) => make("p", { class: "reason" }, row)));
-  box.append(make("p", {}, `Look at ${FIELD_NAMES[answer.key ?? "line"]}.`));
-  if (answer.place !== undefined) box.append(placeShown(answer, about.line));
-  return [box];
+  return [head, make("p", {}, phrase("discard")), list];
 }
 
 // Rows of an explanation: a word, and what it tells. Each kind that a hand waits for has a row; where it is no win, they stand in one.
-function shownReasons({ reasons, by }) {
-  const list = make("dl", { class: "why", "aria-label": "Why" });
-  for (const row of reasons.flatMap((it) => (/^ *waits /.test(it) ? it : it.split("; ")))) {
+// The rows whose words stand in `first` come before the others.
+function shownReasons({ reasons, by, values }, first) {
+  const list = make("dl", { class: "why", "aria-label": phrase("reasons") });
+  const known = rowsOfReasons(values, by);
+  if (known !== null) {
+    list.append(...known);
+    return [list];
+  }
+  const isFirst = (row) => first.some((word) => row.trim().startsWith(`${word} `));
+  const rows = [...reasons.filter(isFirst), ...reasons.filter((row) => !isFirst(row))];
+  for (const row of rows.flatMap((it) => (/^ *waits /.test(it) ? it : it.split("; ")))) {
     const [, word, text] = /^ *(\S+) *(.*)$/.exec(row) ?? [null, row, ""];
     list.append(make("dt", {}, ...textWithTiles(word)), make("dd", {}, ...textWithTiles(spoken(text, by))));
   }
@@ -102,8 +97,8 @@ const SHOWN = {
   waits: shownWaits,
   shape: shownShape,
   refused: shownRefusal,
-  "no yaku": () => [make("p", { class: "headline" }, "No yaku")],
-  "no win": () => [make("p", { class: "headline" }, "No win")],
+  "no yaku": () => [make("p", { class: "headline" }, phrase("no yaku"))],
+  "no win": () => [make("p", { class: "headline" }, phrase("no win"))],
 };
 
 // The parts of the page that show what a line was answered, without the reasons: `about` has the line, its profile, the reasons
@@ -113,7 +108,7 @@ export function shownAnswer(answer, about) {
 }
 
 // The same with its reasons, and the answer as a text.
-export function shownWhole(answer, about) {
+export function shownWhole(answer, about, first = []) {
   const hasRows = about.reasons.length > 0 && answer.answer !== "refused";
-  return [...shownAnswer(answer, about), ...(hasRows ? shownReasons(about) : []), make("p", { class: "raw" }, about.text)];
+  return [...shownAnswer(answer, about), ...(hasRows ? shownReasons(about, first) : []), make("p", { class: "raw" }, about.text)];
 }

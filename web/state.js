@@ -9,7 +9,8 @@ export const state = {
   isRed: false, // whether the next five is a red one
   past: [], // what stood before each change
   handId: 0, // the number of this hand in the list of hands; 0 while it isn't there
-  mode: "win", // the tab: a job, "many" or "hands"
+  mode: "win", // the tab: a job, "game", "many" or "hands"
+  aside: null, // the form of the tabs, while a hand of a game is tapped
   rules: 1,
   names: "english",
   scheme: "device",
@@ -45,4 +46,17 @@ export function setEmpty(job = state.record.job) {
 export function setBack() {
   const before = state.past.pop();
   if (before) Object.assign(state, before, { isRed: false });
+}
+
+// The form of the tabs is laid aside for a hand of a game, which is valued by the game's rules.
+export function layAside(line, rules) {
+  const { record, line: kept, target, isRed, past, handId, rules: chosen } = state;
+  state.aside ??= { record, line: kept, target, isRed, past, handId, rules: chosen };
+  const taken = recordOf(line) ?? emptyRecord("win");
+  Object.assign(state, { record: taken, line, target: "hand", isRed: false, past: [], handId: 0, rules });
+}
+
+export function takeForth() {
+  if (state.aside) Object.assign(state, state.aside);
+  state.aside = null;
 }

@@ -1,5 +1,6 @@
 // What lasts over a reload: the choices, the hand that is made, and the list of hands. A browser that keeps nothing is no fault.
 
+import { noteKept } from "./journal.js";
 import { areRules } from "./rules.js";
 
 const KEY = "riichi_desk";
@@ -19,7 +20,7 @@ export function isKept() {
   }
 }
 
-function read(key, other) {
+export function readKept(key, other) {
   try {
     return JSON.parse(unkept.get(key) ?? localStorage.getItem(key)) ?? other;
   } catch {
@@ -27,22 +28,33 @@ function read(key, other) {
   }
 }
 
-function write(key, value) {
+export function writeKept(key, value) {
   const text = JSON.stringify(value);
   try {
     localStorage.setItem(key, text);
     unkept.delete(key);
+    noteKept(key, text);
   } catch {
     unkept.set(key, text);
   }
 }
 
+export function dropKept(key) {
+  unkept.delete(key);
+  try {
+    localStorage.removeItem(key);
+    noteKept(key, null);
+  } catch {
+    // Nothing is kept there.
+  }
+}
+
 export function readChoices() {
-  return read(KEY, {});
+  return readKept(KEY, {});
 }
 
 export function writeChoices(choices) {
-  write(KEY, choices);
+  writeKept(KEY, choices);
 }
 
 function isHand(it) {
@@ -51,12 +63,12 @@ function isHand(it) {
 
 // The hands of the list, the newest first.
 export function readHands() {
-  const hands = read(HANDS, []);
+  const hands = readKept(HANDS, []);
   return Array.isArray(hands) ? hands.filter(isHand) : [];
 }
 
 function writeHands(hands) {
-  write(HANDS, hands.slice(0, MOST_HANDS));
+  writeKept(HANDS, hands.slice(0, MOST_HANDS));
 }
 
 // Puts a hand into the list, in the place of the one with its number or as a new one; gives its number.

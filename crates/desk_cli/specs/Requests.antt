@@ -162,11 +162,13 @@ AsksForScore found (Some (requests.Score files workers rules is_numbered is_quie
 AsksForScore found (Some (requests.UnknownRules word)) = IsUnknown found word.now
 AsksForScore found (Some other) = ⊥
 
--- `game` answers in words, and with --explain says below each answer what is paid and why
+-- `game` answers in words, and with --explain says below each answer what is paid and why; with --json as objects
 pub record IsGameForm (found : Found) (form : GameForm) : Type 0 where
+  pub json : Bool
   pub explain : Bool
-  pub is_given : IsFlag found (codes "explain") explain
-  pub form_is : form ≡ (if explain then game_forms.Explained else game_forms.Answers)
+  pub json_given : IsFlag found (codes "json") json
+  pub explain_given : IsFlag found (codes "explain") explain
+  pub form_is : form ≡ (if json then game_forms.Objects else if explain then game_forms.Explained else game_forms.Answers)
 
 -- texts of games: those of files, or of standard input where none is named
 abbrev pub AsksForGames : Found → Request → Type 0

@@ -121,6 +121,7 @@ Example:
   riichi_desk game evening.game
   riichi_desk game --rules 1+red-fives < evening.game
   riichi_desk game --explain evening.game
+  riichi_desk game --json evening.game
 
 A game is typed as it is played, a line for each deal:
   game Anna Bo Cyd Dee

@@ -70,6 +70,8 @@ pub enum GameForm {
     Answers,
     /// The same, with what is paid and why below each.
     Explained,
+    /// As objects of JSON, one for each.
+    Objects,
 }
 
 /// What a player needs for a place in the next deal of the last game of a file.
@@ -254,7 +256,11 @@ fn games_request<'m, 'a>(words: &'m ArgMatches<'a>) -> Request<'m, 'a>
 fn game_form_in(words: &ArgMatches<'_>) -> GameForm
     ensures { spec.IsGameForm (found_of words.now) result }
 {
-    if words.get_flag("explain") {
+    let is_json = words.get_flag("json");
+    let is_explained = words.get_flag("explain");
+    if is_json {
+        GameForm::Objects
+    } else if is_explained {
         GameForm::Explained
     } else {
         GameForm::Answers

@@ -290,6 +290,7 @@ fn game_command<'a>(alloc: Global) -> Result<Command<'a>, AllocError> {
         .after_help(GAME_HELP)
         .arg(hand_rules_arg(alloc))?
         .arg(explain_arg(alloc))?
+        .arg(game_json_arg(alloc)?)?
         .arg(number_arg(alloc))?
         .arg(games_arg(alloc))
 }
@@ -311,6 +312,15 @@ fn explain_arg<'a>(alloc: Global) -> Arg<'a> {
         "explain",
         "Says below each deal who pays whom and why, and below a game's end how its totals add up",
     )
+}
+
+/// That answers to games are wanted as JSON, where they aren't to be explained in words.
+fn game_json_arg<'a>(alloc: Global) -> Result<Arg<'a>, AllocError> {
+    json_arg(
+        alloc,
+        "Answers each line by one object of JSON, a deal with all that it moves",
+    )
+    .conflicts_with("explain")
 }
 
 /// The rules for hands of games that name none.

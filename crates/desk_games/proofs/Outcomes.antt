@@ -40,26 +40,26 @@ or_false false = refl
 abbrev GoesOn : GameSoFar → Reply → Type 0
 GoesOn game reply = (former : Option Progress) × (reply.desk ≡ desk.Game (gone_on game former (cons_option reply.outcome []) (refuses reply)))
 
-refused_so : (game : GameSoFar) (fault : GameFault) → GoesOn game (refusal (desk.Game game) fault)
-refused_so game fault = (game.former, ap (λ (held : Bool). desk.Game (record game { is_held = held })) (sym (or_true game.is_held)))
+refused_so : (form : GamesForm) (game : GameSoFar) (fault : GameFault) → GoesOn game (refusal form (desk.Game game) fault)
+refused_so form game fault = (game.former, ap (λ (held : Bool). desk.Game (record game { is_held = held })) (sym (or_true game.is_held)))
 
-blank_so : (game : GameSoFar) → GoesOn game (blank_reply (desk.Game game))
-blank_so game = (game.former, ap (λ (held : Bool). desk.Game (record game { is_held = held })) (sym (or_false game.is_held)))
+blank_so : (form : GamesForm) (game : GameSoFar) → GoesOn game (blank_reply form (desk.Game game))
+blank_so form game = (game.former, ap (λ (held : Bool). desk.Game (record game { is_held = held })) (sym (or_false game.is_held)))
 
 entry_so : (form : GamesForm) (game : GameSoFar) (line : List ℕ) (entry : Result Outcome GameFault) → GoesOn game (entry_reply form game line entry)
-entry_so form game line (Err fault) = refused_so game fault
+entry_so form game line (Err fault) = refused_so form game fault
 entry_so form game line (Ok outcome) = (
   Some game.progress,
   ap (λ (held : Bool). desk.Game (record { names = game.names; rules = game.rules; progress = after_all game.progress game.rules (outcome ∷ []); former = Some game.progress; is_held = held })) (sym (or_false game.is_held)),
 )
 
-either_so : (form : GamesForm) (game : GameSoFar) (line : List ℕ) (held : Bool) (entry : Result Outcome GameFault) → GoesOn game (if held then refusal (desk.Game game) G14 else entry_reply form game line entry)
-either_so form game line true entry = refused_so game G14
+either_so : (form : GamesForm) (game : GameSoFar) (line : List ℕ) (held : Bool) (entry : Result Outcome GameFault) → GoesOn game (if held then refusal form (desk.Game game) G14 else entry_reply form game line entry)
+either_so form game line true entry = refused_so form game G14
 either_so form game line false entry = entry_so form game line entry
 
 goes_on_one : (form : GamesForm) (given : Rules) (game : GameSoFar) (seen : LineOfGame) (line : List ℕ) (reply : Reply) → is_begin seen ≡ false → is_undo seen ≡ false → IsReplyTo form given (desk.Game game) seen line reply → GoesOn game reply
-goes_on_one form given game Odd line reply other keeps is = subst (λ (r : Reply). GoesOn game r) (sym is) (refused_so game G1)
-goes_on_one form given game Blank line reply other keeps is = subst (λ (r : Reply). GoesOn game r) (sym is) (blank_so game)
+goes_on_one form given game Odd line reply other keeps is = subst (λ (r : Reply). GoesOn game r) (sym is) (refused_so form game G1)
+goes_on_one form given game Blank line reply other keeps is = subst (λ (r : Reply). GoesOn game r) (sym is) (blank_so form game)
 goes_on_one form given game (Begins words) line reply other keeps is = absurd (cc)
 goes_on_one form given game Undo line reply other keeps is = absurd (cc)
 goes_on_one form given game Entry line reply other keeps is =
@@ -80,7 +80,7 @@ one_more game former later (Some outcome) refused others outcomes =
 
 pub goes_on_by_outcomes : GoesOnByOutcomes
 goes_on_by_outcomes form given game [] replies last none keep are =
-    let blank = blank_so game in
+    let blank = blank_so form game in
     (blank.0, are.1 ∙ blank.1 ∙ ap (λ (rs : List Reply). desk.Game (gone_on game blank.0 (outcomes_in rs) (list_any refuses rs))) (sym are.0))
 goes_on_by_outcomes form given game (line ∷ lines) replies last none keep are =
     let reply = are.0 in
@@ -102,7 +102,7 @@ none_taken form given game (Begins words) line reply other keeps held is = absur
 none_taken form given game Undo line reply other keeps held is = absurd (cc)
 none_taken form given game Entry line reply other keeps held is =
     ap (λ (r : Reply). r.outcome) is
-    ∙ ap (λ (b : Bool). (if b then refusal (desk.Game game) G14 else entry_reply form game line (outcome_of_entry game.names game.progress game.rules line)).outcome) held
+    ∙ ap (λ (b : Bool). (if b then refusal form (desk.Game game) G14 else entry_reply form game line (outcome_of_entry game.names game.progress game.rules line)).outcome) held
 
 pub held_takes_none : HeldTakesNone
 held_takes_none form given game [] replies last none keep held are = ap outcomes_in are.0

@@ -36,11 +36,11 @@ undoes_if first words is other same = begins_if first words false other ∙ ap (
 reply_by : (form : GamesForm) (given : Rules) (now : GameDesk) (line : List ℕ) (seen : LineOfGame) (reply : Reply) → seen_in line ≡ seen → IsReplyTo form given now seen line reply → IsReply form given now line reply
 reply_by form given now line seen reply seen_is is = subst (λ (s : LineOfGame). IsReplyTo form given now s line reply) (sym seen_is) is
 
-pub odd_reply : (form : GamesForm) (given : Rules) (now : GameDesk) (line : List ℕ) → is_odd line ≡ true → IsReply form given now line (refusal now G1)
-odd_reply form given now line odd = reply_by form given now line Odd (refusal now G1) (seen_odd line odd) refl
+pub odd_reply : (form : GamesForm) (given : Rules) (now : GameDesk) (line : List ℕ) → is_odd line ≡ true → IsReply form given now line (refusal form now G1)
+odd_reply form given now line odd = reply_by form given now line Odd (refusal form now G1) (seen_odd line odd) refl
 
-pub no_reply : (form : GamesForm) (given : Rules) (now : GameDesk) (line : List ℕ) → is_odd line ≡ false → said_in line ≡ [] → IsReply form given now line (blank_reply now)
-no_reply form given now line even said = reply_by form given now line Blank (blank_reply now) (seen_by line [] even said) refl
+pub no_reply : (form : GamesForm) (given : Rules) (now : GameDesk) (line : List ℕ) → is_odd line ≡ false → said_in line ≡ [] → IsReply form given now line (blank_reply form now)
+no_reply form given now line even said = reply_by form given now line Blank (blank_reply form now) (seen_by line [] even said) refl
 
 pub begin_replied : (form : GamesForm) (given : Rules) (now : GameDesk) (line first rest : List ℕ) (reply : Reply) → is_odd line ≡ false → said_in line ≡ first ∷ said_in rest → bytes_eq first (codes "game") ≡ true
     → IsReplyTo form given now (Begins (said_in rest)) rest reply → IsReply form given now line reply
@@ -48,9 +48,9 @@ begin_replied form given now line first rest reply even said same is =
     reply_by form given now line (Begins (said_in rest)) reply (seen_by line (first ∷ said_in rest) even said ∙ begins_if first (said_in rest) true same) is
 
 pub undo_replied : (form : GamesForm) (given : Rules) (now : GameDesk) (line first rest : List ℕ) → is_odd line ≡ false → said_in line ≡ first ∷ said_in rest → bytes_eq first (codes "game") ≡ false
-    → says_undo first (said_in rest) ≡ true → IsReply form given now line (undo_reply now)
+    → says_undo first (said_in rest) ≡ true → IsReply form given now line (undo_reply form now)
 undo_replied form given now line first rest even said other undo =
-    reply_by form given now line Undo (undo_reply now) (seen_by line (first ∷ said_in rest) even said ∙ undoes_if first (said_in rest) true other undo) refl
+    reply_by form given now line Undo (undo_reply form now) (seen_by line (first ∷ said_in rest) even said ∙ undoes_if first (said_in rest) true other undo) refl
 
 pub entry_replied : (form : GamesForm) (given : Rules) (now : GameDesk) (line first rest : List ℕ) → is_odd line ≡ false → said_in line ≡ first ∷ said_in rest → bytes_eq first (codes "game") ≡ false
     → says_undo first (said_in rest) ≡ false → IsReply form given now line (other_reply form now line)
@@ -76,7 +76,7 @@ long_seen line long = seen_odd line (long_is_odd line long)
 reply_as : (form : GamesForm) (given : Rules) (now : GameDesk) (line next : List ℕ) (reply : Reply) → IsToldAs 4096 line next → IsReply form given now line reply → IsReply form given now next reply
 reply_as form given now line next reply (inl same) is = subst (λ (l : List ℕ). IsReply form given now l reply) same is
 reply_as form given now line next reply (inr long) is =
-    let odd : reply ≡ refusal now G1 = subst (λ (seen : LineOfGame). IsReplyTo form given now seen line reply) (long_seen line long.0) is in
+    let odd : reply ≡ refusal form now G1 = subst (λ (seen : LineOfGame). IsReplyTo form given now seen line reply) (long_seen line long.0) is in
     subst (λ (seen : LineOfGame). IsReplyTo form given now seen next reply) (sym (long_seen next long.1)) odd
 
 -- ---- one more line

@@ -1,5 +1,5 @@
 -- A text of games so far: the game at hand, and how it ends where no line of it follows.
-use Rattle.std.specs.Prelude.{ℕ, List, ◌++◌, Bool, true, false, not, ◌&&◌, Option, None, Some, if◌then◌else◌}
+use Rattle.std.specs.Prelude.{ℕ, List, ◌++◌, Bool, true, false, not, ◌&&◌, Option, None, Some, if◌then◌else◌, codes}
 use Rattle.riichi_table.specs.declared.player.ByPlayer.{ByPlayer}
 use Rattle.riichi_game.specs.Games.{first_progress}
 use Rattle.riichi_places.specs.Finals.{finals_of}
@@ -7,7 +7,10 @@ use Rattle.riichi_places.specs.declared.finals.FinalPoints.{FinalPoints}
 use Rattle.riichi_game_text.specs.Answers.{stands_text}
 use Rattle.riichi_game_text.specs.FinalTexts.{over_text}
 use Rattle.riichi_game_text.specs.GameLines.{GameSaid}
+use Rattle.riichi_game_json.specs.Finals.{over_members}
+use Rattle.riichi_game_json.specs.States.{stands_members}
 use Rattle.desk_games.specs.Below.{below_end}
+use Rattle.desk_games.specs.Forms.{writing_of, written}
 use Rattle.desk_games.specs.Played.{GameSoFar, hold}
 use Rattle.desk_games.specs.declared.desk.GameDesk.{GameDesk}
 use Rattle.desk_games.specs.declared.desk.GameDesk.TheVariants as desk
@@ -59,12 +62,24 @@ end_text game =
     if has_ended game then over_text game.names game.progress.state.sticks (finals game)
     else stands_text game.progress.state
 
+-- the same as an object: its members, and the object
+unfoldable pub end_members : GameSoFar → List ℕ
+end_members game =
+    if has_ended game then over_members game.names game.progress.state.sticks (finals game)
+    else stands_members game.progress.state
+
+unfoldable pub end_object : GameSoFar → List ℕ
+end_object game = codes "{" ++ end_members game
+
+abbrev pub end_text_in : GamesForm → GameSoFar → List ℕ
+end_text_in form game = written (writing_of form) (end_text game) (end_object game)
+
 abbrev pub below_end_of : GamesForm → GameSoFar → List ℕ
 below_end_of form game = below_end form (has_ended game) game.names game.rules (finals game)
 
--- the same, and below it how the final points are made, where that is told
+-- in this form, and below it how the final points are made, where that is told
 abbrev pub end_in : GamesForm → GameSoFar → List ℕ
-end_in form game = end_text game ++ below_end_of form game
+end_in form game = end_text_in form game ++ below_end_of form game
 
 -- what is told behind the last line of the game at hand: nothing where there is none, or none with a state
 abbrev pub told_at_end : GamesForm → GameDesk → Option (List ℕ)

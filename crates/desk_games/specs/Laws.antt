@@ -91,11 +91,11 @@ HeldTakesNone = (form : GamesForm) (given : Rules) (game : GameSoFar) (lines : L
 -- `undo` behind an accepted line leaves the game as far as it had come before
 abbrev pub UndoTakesTheLastBack : Type 0
 UndoTakesTheLastBack = (form : GamesForm) (game : GameSoFar) (line : List ℕ) (outcome : Outcome) → game.is_held ≡ false
-    → (undo_reply (accept form game line outcome).desk).desk ≡ desk.Game (record game { former = None })
+    → (undo_reply form (accept form game line outcome).desk).desk ≡ desk.Game (record game { former = None })
 
 -- `undo` behind a refused line, and others that were refused for it, leaves the game as it was before the first of them
 abbrev pub UndoReleases : Type 0
-UndoReleases = (game : GameSoFar) → game.is_held ≡ false → (undo_reply (held_desk (desk.Game game))).desk ≡ desk.Game game
+UndoReleases = (form : GamesForm) (game : GameSoFar) → game.is_held ≡ false → (undo_reply form (held_desk (desk.Game game))).desk ≡ desk.Game game
 
 -- ---- where a game at hand comes from
 

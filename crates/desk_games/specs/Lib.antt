@@ -1,3 +1,4 @@
+pub mod Forms
 pub mod Played
 pub mod Pending
 pub mod Below

@@ -6,6 +6,7 @@ use Rattle.riichi_table.specs.Players.{of_player}
 use Rattle.riichi_table.specs.declared.outcome.Outcome.{Outcome}
 use Rattle.riichi_table.specs.declared.outcome.Outcome.TheVariants.{Penalty, End}
 use Rattle.riichi_game.specs.Games.{after_one}
+use Rattle.riichi_table.specs.declared.state.GameState.{GameState}
 use Rattle.riichi_game.specs.declared.game.Progress.{Progress}
 use Rattle.riichi_game_text.specs.Answers.{begun_text, deal_text, penalty_text, stands_text}
 use Rattle.riichi_game_text.specs.Entries.{outcome_of_entry, is_odd}
@@ -17,12 +18,19 @@ use Rattle.riichi_game_text.specs.declared.fault.GameFault.{GameFault}
 use Rattle.riichi_game_text.specs.declared.fault.GameFault.TheVariants.{G1, G2, G3, G4, G14}
 use Rattle.desk_lines.specs.declared.line_kind.LineKind.{LineKind}
 use Rattle.desk_lines.specs.declared.line_kind.LineKind.TheVariants.{NoRecord, Answered, Refused}
+use Rattle.riichi_game_json.specs.Begun.{begun_members}
+use Rattle.riichi_game_json.specs.Deals.{outcome_members}
+use Rattle.riichi_game_json.specs.Refusals.{refused_members}
+use Rattle.riichi_game_json.specs.States.{stands_members}
 use Rattle.desk_games.specs.Below.{GameStep, below_deal, said_end}
+use Rattle.desk_games.specs.Forms.{writing_of, written}
 use Rattle.desk_games.specs.Played.{GameSoFar, release, come_back}
 use Rattle.desk_games.specs.Desks.{begun_desk, held_desk, is_held_desk, told_at_end}
 use Rattle.desk_games.specs.declared.desk.GameDesk.{GameDesk}
 use Rattle.desk_games.specs.declared.desk.GameDesk.TheVariants as desk
 use Rattle.desk_games.specs.declared.form.GamesForm.{GamesForm}
+use Rattle.desk_games.specs.declared.form.Writing.{Writing}
+use Rattle.desk_games.specs.declared.form.Writing.TheVariants.{Words, Members}
 
 -- ---- what a line is, before any game is looked at
 
@@ -49,9 +57,10 @@ seen_in line = if is_odd line then Odd else line_of_words (said_in line)
 
 -- ---- what a line comes to
 
--- How the game before a line ended, where the line begins another; the answer to the line itself, where it has one; the outcome that
--- was accepted, where it is one; how the line counts; and the text of games behind it.
+-- The form of the answers; how the game before a line ended, where the line begins another; the answer to the line itself, where it has
+-- one, without what stands before each; the outcome that was accepted, where it is one; how the line counts; and the text of games behind it.
 pub record Reply : Type 0 where
+  pub form : GamesForm
   pub ended : Option (List ℕ)
   pub answer : Option (List ℕ)
   pub outcome : Option Outcome
@@ -59,44 +68,58 @@ pub record Reply : Type 0 where
   pub desk : GameDesk
 
 -- a line without words
-abbrev pub blank_reply : GameDesk → Reply
-blank_reply now = record { ended = None; answer = None; outcome = None; kind = NoRecord; desk = now }
+abbrev pub blank_reply : GamesForm → GameDesk → Reply
+blank_reply form now = record { form = form; ended = None; answer = None; outcome = None; kind = NoRecord; desk = now }
+
+unfoldable pub refused_in : GamesForm → GameFault → List ℕ
+refused_in form fault = written (writing_of form) (refused_text fault) (refused_members fault)
 
 -- a line is refused, and holds its game; behind a refused line of the same game that is its fault, whatever it says
-abbrev pub refusal : GameDesk → GameFault → Reply
-refusal now fault = record {
+abbrev pub refusal : GamesForm → GameDesk → GameFault → Reply
+refusal form now fault = record {
+  form = form;
   ended = None;
-  answer = Some (refused_text (if is_held_desk now then G14 else fault));
+  answer = Some (refused_in form (if is_held_desk now then G14 else fault));
   outcome = None;
   kind = Refused;
   desk = held_desk now;
 }
 
+unfoldable pub begun_in : GamesForm → GameSaid → List ℕ
+begun_in form said = written (writing_of form) (begun_text said.names said.rules.start) (begun_members said)
+
 -- a line `game` ends the game before it
 abbrev pub begin_reply : GamesForm → GameDesk → Option GameSaid → Reply
 begin_reply form now None = record {
+  form = form;
   ended = told_at_end form now;
-  answer = Some (refused_text G3);
+  answer = Some (refused_in form G3);
   outcome = None;
   kind = Refused;
   desk = begun_desk None;
 }
 begin_reply form now (Some said) = record {
+  form = form;
   ended = told_at_end form now;
-  answer = Some (begun_text said.names said.rules.start);
+  answer = Some (begun_in form said);
   outcome = None;
   kind = Answered;
   desk = begun_desk (Some said);
 }
 
+-- in words an outcome has its answer, with what stands below it
 abbrev pub answer_to_outcome : GamesForm → GameStep → Outcome → Option (List ℕ)
 answer_to_outcome form step (Penalty player points) = Some (penalty_text (of_player step.names player) points)
 answer_to_outcome form step End = said_end form step
 answer_to_outcome form step other = Some (deal_text step.before.state step.after.state.points ++ below_deal form step)
 
--- the answer to an outcome by how far the game had come before it and has come after it, with what stands below it
+abbrev pub outcome_written : Writing → GamesForm → GameStep → Option (List ℕ)
+outcome_written Words form step = answer_to_outcome form step step.outcome
+outcome_written Members form step = Some (outcome_members step.rules step.before step.after step.outcome)
+
+-- the answer to an outcome by how far the game had come before it and has come after it
 abbrev pub outcome_answer : GamesForm → GameStep → Option (List ℕ)
-outcome_answer form step = answer_to_outcome form step step.outcome
+outcome_answer form step = outcome_written (writing_of form) form step
 
 abbrev pub step_of : GameSoFar → List ℕ → Outcome → Progress → GameStep
 step_of game line outcome after = record {
@@ -112,6 +135,7 @@ step_of game line outcome after = record {
 abbrev pub accept : GamesForm → GameSoFar → List ℕ → Outcome → Reply
 accept form game line outcome =
     let after = after_one game.progress game.rules outcome in record {
+      form = form;
       ended = None;
       answer = outcome_answer form (step_of game line outcome after);
       outcome = Some outcome;
@@ -120,55 +144,59 @@ accept form game line outcome =
     }
 
 abbrev pub entry_reply : GamesForm → GameSoFar → List ℕ → Result Outcome GameFault → Reply
-entry_reply form game line (Err fault) = refusal (desk.Game game) fault
+entry_reply form game line (Err fault) = refusal form (desk.Game game) fault
 entry_reply form game line (Ok outcome) = accept form game line outcome
 
 abbrev pub game_reply : GamesForm → GameSoFar → List ℕ → Reply
 game_reply form game line =
-    if game.is_held then refusal (desk.Game game) G14
+    if game.is_held then refusal form (desk.Game game) G14
     else entry_reply form game line (outcome_of_entry game.names game.progress game.rules line)
 
 -- ---- where a line is taken back
 
+unfoldable pub stands_in : GamesForm → GameState → List ℕ
+stands_in form state = written (writing_of form) (stands_text state) (stands_members state)
+
 -- the answer is the state that the game is in again
-abbrev pub back_reply : GameSoFar → Reply
-back_reply game = record {
+abbrev pub back_reply : GamesForm → GameSoFar → Reply
+back_reply form game = record {
+  form = form;
   ended = None;
-  answer = Some (stands_text game.progress.state);
+  answer = Some (stands_in form game.progress.state);
   outcome = None;
   kind = Answered;
   desk = desk.Game game;
 }
 
 -- the last accepted line, where it wasn't taken back before
-abbrev pub last_reply : GameSoFar → Option Progress → Reply
-last_reply game None = refusal (desk.Game game) G4
-last_reply game (Some before) = back_reply (come_back game before)
+abbrev pub last_reply : GamesForm → GameSoFar → Option Progress → Reply
+last_reply form game None = refusal form (desk.Game game) G4
+last_reply form game (Some before) = back_reply form (come_back game before)
 
 -- the refused line and those behind it, or else the last accepted one
-abbrev pub game_undo : GameSoFar → Reply
-game_undo game = if game.is_held then back_reply (release game) else last_reply game game.former
+abbrev pub game_undo : GamesForm → GameSoFar → Reply
+game_undo form game = if game.is_held then back_reply form (release game) else last_reply form game game.former
 
-abbrev pub undo_reply : GameDesk → Reply
-undo_reply desk.NoGame = refusal desk.NoGame G2
-undo_reply desk.Refused = refusal desk.Refused G2
-undo_reply (desk.Game game) = game_undo game
+abbrev pub undo_reply : GamesForm → GameDesk → Reply
+undo_reply form desk.NoGame = refusal form desk.NoGame G2
+undo_reply form desk.Refused = refusal form desk.Refused G2
+undo_reply form (desk.Game game) = game_undo form game
 
 -- ---- together
 
 -- a line that isn't odd, and whose first word is neither `game` nor a lone `undo`
 abbrev pub other_reply : GamesForm → GameDesk → List ℕ → Reply
-other_reply form desk.NoGame line = refusal desk.NoGame G2
-other_reply form desk.Refused line = refusal desk.Refused G2
+other_reply form desk.NoGame line = refusal form desk.NoGame G2
+other_reply form desk.Refused line = refusal form desk.Refused G2
 other_reply form (desk.Game game) line = game_reply form game line
 
 -- By what a line is: of a line `game` the words say the game, and the rules for hands, where these aren't the given ones.
 abbrev pub IsReplyTo : GamesForm → Rules → GameDesk → LineOfGame → List ℕ → Reply → Type 0
-IsReplyTo form given now Odd line reply = reply ≡ refusal now G1
-IsReplyTo form given now Blank line reply = reply ≡ blank_reply now
+IsReplyTo form given now Odd line reply = reply ≡ refusal form now G1
+IsReplyTo form given now Blank line reply = reply ≡ blank_reply form now
 IsReplyTo form given now (Begins words) line reply =
     (hand : Option Rules) × IsHandRules given (hand_rules_word words) hand × (reply ≡ begin_reply form now (game_of hand words))
-IsReplyTo form given now Undo line reply = reply ≡ undo_reply now
+IsReplyTo form given now Undo line reply = reply ≡ undo_reply form now
 IsReplyTo form given now Entry line reply = reply ≡ other_reply form now line
 
 -- what a line comes to behind a text of games, under the given rules for hands

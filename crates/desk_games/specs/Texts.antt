@@ -4,19 +4,15 @@ use Rattle.std.specs.List.{cons_option}
 use Rattle.riichi_hand.specs.Rules.{Rules}
 use Rattle.desk_lines.specs.declared.line_kind.LineKind.{LineKind}
 use Rattle.desk_lines.specs.declared.report.DeskReport.{DeskReport}
-use Rattle.desk_lines.specs.Numbered.{words_front}
 use Rattle.desk_lines.specs.Telling.{report_of, with_line_feed}
+use Rattle.desk_games.specs.Forms.{front_text}
 use Rattle.desk_games.specs.Replies.{Reply, AreReplies}
 use Rattle.desk_games.specs.declared.desk.GameDesk.{GameDesk}
 use Rattle.desk_games.specs.declared.form.GamesForm.{GamesForm}
 
 -- ---- the text of one answer
 
--- an answer behind the number of its line, where that is told
-abbrev pub front_text : Option ℕ → List ℕ
-front_text None = []
-front_text (Some number) = words_front number
-
+-- an answer behind what stands before each
 abbrev pub behind_front : List ℕ → Option (List ℕ) → Option (List ℕ)
 behind_front front None = None
 behind_front front (Some answer) = Some (front ++ answer)
@@ -27,7 +23,7 @@ behind_end ended None = None
 behind_end ended (Some answer) = Some (ended ++ answer)
 
 abbrev pub text_of_reply : Option ℕ → Reply → Option (List ℕ)
-text_of_reply number reply = behind_end (with_line_feed reply.ended) (behind_front (front_text number) reply.answer)
+text_of_reply number reply = behind_end (with_line_feed reply.ended) (behind_front (front_text reply.form number) reply.answer)
 
 -- A reply was counted so, its answer put behind the text that stood there, and this is the text of games behind it.
 pub record PutsReply (number : Option ℕ) (reply : Reply) (kind : LineKind) (before after : List ℕ) (now : GameDesk) : Type 0 where

@@ -70,12 +70,12 @@ impl GameDesk {
     /// Takes a line that has this fault by itself, and puts its answer.
     pub(crate) fn refuse(
         &mut self,
-        front: Option<u64>,
+        manner: Manner,
         fault: GameFault,
         outbox: &mut Outbox,
     ) -> LineKind
         requires { HasRoomForText outbox.old }
-        ensures { PutsReply front (refusal self.old fault) result
+        ensures { PutsReply manner.front (refusal manner.form self.old fault) result
             outbox.old.bytes.items outbox.new.bytes.items self.new }
     {
         let told = if self.is_held() {
@@ -83,20 +83,20 @@ impl GameDesk {
         } else {
             fault
         };
-        put_refused(front, told, outbox);
+        put_refused(manner, told, outbox);
         self.hold();
         LineKind::Refused
     }
 
     /// Takes the line `undo`, and puts its answer.
-    pub(crate) fn undo(&mut self, front: Option<u64>, outbox: &mut Outbox) -> LineKind
+    pub(crate) fn undo(&mut self, manner: Manner, outbox: &mut Outbox) -> LineKind
         requires { HasRoomForText outbox.old }
-        ensures { PutsReply front (undo_reply self.old) result
+        ensures { PutsReply manner.front (undo_reply manner.form self.old) result
             outbox.old.bytes.items outbox.new.bytes.items self.new }
     {
         match self {
-            GameDesk::Game(game) => game.undo(front, outbox),
-            _ => self.refuse(front, GameFault::G2, outbox),
+            GameDesk::Game(game) => game.undo(manner, outbox),
+            _ => self.refuse(manner, GameFault::G2, outbox),
         }
     }
 
@@ -108,7 +108,7 @@ impl GameDesk {
     {
         match self {
             GameDesk::Game(game) => game.take(manner, line, outbox),
-            _ => self.refuse(manner.front, GameFault::G2, outbox),
+            _ => self.refuse(manner, GameFault::G2, outbox),
         }
     }
 }

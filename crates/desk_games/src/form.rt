@@ -1,6 +1,7 @@
 //! How texts of games are answered.
 ghost use Rattle.std.specs.Prelude.{◌≡◌};
 ghost use Rattle.desk_games.specs.Below.{explains};
+ghost use Rattle.desk_games.specs.Forms as spec;
 
 /// How texts of games are answered.
 #[derive(Clone, Copy, Debug, PartialEq, Eq)]
@@ -9,6 +10,17 @@ pub enum GamesForm {
     Answers,
     /// The answers, and below each why it is so, in lines that begin with two spaces.
     Explained,
+    /// Each answer as an object of JSON on a line of its own, that to a deal with all that it moves.
+    Objects,
+}
+
+/// What an answer is written as.
+#[derive(Clone, Copy, Debug, PartialEq, Eq)]
+pub(crate) enum Writing {
+    /// Words.
+    Words,
+    /// The members of an object.
+    Members,
 }
 
 impl GamesForm {
@@ -17,8 +29,18 @@ impl GamesForm {
         ensures { result ≡ explains self }
     {
         match self {
-            GamesForm::Answers => false,
+            GamesForm::Answers | GamesForm::Objects => false,
             GamesForm::Explained => true,
+        }
+    }
+
+    /// What answers are written as.
+    pub(crate) fn writing(self) -> Writing
+        ensures { result ≡ spec.writing_of self }
+    {
+        match self {
+            GamesForm::Answers | GamesForm::Explained => Writing::Words,
+            GamesForm::Objects => Writing::Members,
         }
     }
 }

@@ -14,11 +14,12 @@ ghost use Rattle.desk_games.specs.Replies.{accept, game_reply, game_undo};
 ghost use Rattle.desk_games.specs.Texts.{PutsReply};
 
 use crate::below::{Step, next_line};
-use crate::form::GamesForm;
+use crate::form::{GamesForm, Writing};
 use crate::puts::{Manner, put_outcome, put_refused, put_stands};
 use arrayvec::ArrayString;
 use desk_lines::{LineKind, Outbox};
 use riichi_game::Progress;
+use riichi_game_json as members;
 use riichi_game_reasons::{MOST_FINAL_REASONS, push_final_reasons};
 use riichi_game_text::{
     AcceptedLine, GameFault, GameLine, MOST_OVER, Names, push_over, push_stands, read_entry,
@@ -30,6 +31,9 @@ use std::marker::Model;
 
 /// The bytes of the longest end of a game.
 pub const MOST_END: usize = MOST_OVER;
+
+/// The bytes of the members of the longest object of an end.
+const MOST_END_MEMBERS: usize = members::MOST_OVER;
 
 /// The bytes of all that stands below the end of a game.
 const MOST_BELOW_END: usize = "\n".len() + MOST_FINAL_REASONS;
@@ -125,6 +129,43 @@ impl GameAtHand {
         }
     }
 
+    /// Writes the same as an object of JSON.
+    #[tactic(auto, unfolding(crate::specs::Desks::end_object))]
+    fn push_end_object(&self, text: &mut AnswerText)
+        requires { array_string_len text.old + MOST_END ≤ ANSWER_ROOM }
+        ensures bytes { text.new.bytes ≡ text.old.bytes ++ spec.end_object self.now }
+        ensures len { array_string_len text.new ≤ array_string_len text.old + MOST_END }
+    {
+        text.push_str("{");
+        self.push_end_members(text);
+    }
+
+    #[tactic(auto, unfolding(crate::specs::Desks::end_members))]
+    fn push_end_members(&self, text: &mut AnswerText)
+        requires { array_string_len text.old + MOST_END_MEMBERS ≤ ANSWER_ROOM }
+        ensures bytes { text.new.bytes ≡ text.old.bytes ++ spec.end_members self.now }
+        ensures len { array_string_len text.new ≤ array_string_len text.old + MOST_END_MEMBERS }
+    {
+        let state = &self.progress.state;
+        if self.has_ended() {
+            members::push_over(text, &self.names, state.sticks, &self.finals());
+        } else {
+            members::push_stands(text, state);
+        }
+    }
+
+    /// Writes the same in a form of answers.
+    fn push_end_in(&self, form: GamesForm, text: &mut AnswerText)
+        requires { array_string_len text.old + MOST_END ≤ ANSWER_ROOM }
+        ensures bytes { text.new.bytes ≡ text.old.bytes ++ spec.end_text_in form self.now }
+        ensures len { array_string_len text.new ≤ array_string_len text.old + MOST_END }
+    {
+        match form.writing() {
+            Writing::Words => self.push_end(text),
+            Writing::Members => self.push_end_object(text),
+        }
+    }
+
     /// Whether the game is over, and no line of it was refused.
     fn has_ended(&self) -> bool
         ensures { result ≡ spec.has_ended self.now }
@@ -147,7 +188,7 @@ impl GameAtHand {
         ensures room { HasRoomForText outbox.new }
     {
         outbox.text.clear();
-        self.push_end(&mut outbox.text);
+        self.push_end_in(form, &mut outbox.text);
         self.put_below_end(form, outbox);
         outbox.put_text();
     }
@@ -171,7 +212,7 @@ impl GameAtHand {
     {
         let mut text = AnswerText::new();
         let mut ended = EndText::new();
-        self.push_end(&mut text);
+        self.push_end_in(form, &mut text);
         ended.push_str(text.as_str());
         text.clear();
         self.push_below_end(form, &mut text);
@@ -193,26 +234,26 @@ impl GameAtHand {
     }
 
     /// Takes the refused lines back, or else the last accepted one, and puts the answer.
-    pub(crate) fn undo(&mut self, front: Option<u64>, outbox: &mut Outbox) -> LineKind
+    pub(crate) fn undo(&mut self, manner: Manner, outbox: &mut Outbox) -> LineKind
         requires { HasRoomForText outbox.old }
-        ensures { PutsReply front (game_undo self.old) result
+        ensures { PutsReply manner.front (game_undo manner.form self.old) result
             outbox.old.bytes.items outbox.new.bytes.items (Game self.new) }
     {
         if self.is_held {
             self.is_held = false;
-            put_stands(front, &self.progress.state, outbox);
+            put_stands(manner, &self.progress.state, outbox);
             return LineKind::Answered;
         }
         match self.former {
             None => {
                 self.is_held = true;
-                put_refused(front, GameFault::G4, outbox);
+                put_refused(manner, GameFault::G4, outbox);
                 LineKind::Refused
             }
             Some(before) => {
                 self.progress = before;
                 self.former = None;
-                put_stands(front, &before.state, outbox);
+                put_stands(manner, &before.state, outbox);
                 LineKind::Answered
             }
         }
@@ -225,14 +266,14 @@ impl GameAtHand {
             outbox.old.bytes.items outbox.new.bytes.items (Game self.new) }
     {
         if self.is_held {
-            put_refused(manner.front, GameFault::G14, outbox);
+            put_refused(manner, GameFault::G14, outbox);
             return LineKind::Refused;
         }
         match read_entry(&self.names, &self.progress, &self.rules, line) {
             Ok(accepted) => self.accept(manner, line, &accepted, outbox),
             Err(fault) => {
                 self.hold();
-                put_refused(manner.front, fault, outbox);
+                put_refused(manner, fault, outbox);
                 LineKind::Refused
             }
         }

@@ -61,21 +61,18 @@ impl Games {
             × IsReply self.old.form self.old.given self.old.desk line.now reply
             × PutsReply front reply result outbox.old.bytes.items outbox.new.bytes.items self.new.desk }
     {
+        let manner = Manner {
+            front,
+            form: self.form,
+        };
         if is_odd(line) {
-            return self.desk.refuse(front, GameFault::G1, outbox);
+            return self.desk.refuse(manner, GameFault::G1, outbox);
         }
         match next_said(line) {
             None => LineKind::NoRecord,
             Some((first, words)) if first == b"game".as_slice() => self.begin(front, words, outbox),
-            Some((first, words)) if says_undo(first, words) => self.desk.undo(front, outbox),
-            Some(_) => self.desk.take(
-                Manner {
-                    front,
-                    form: self.form,
-                },
-                line,
-                outbox,
-            ),
+            Some((first, words)) if says_undo(first, words) => self.desk.undo(manner, outbox),
+            Some(_) => self.desk.take(manner, line, outbox),
         }
     }
 
@@ -87,16 +84,20 @@ impl Games {
             × IsReplyTo self.old.form self.old.given self.old.desk (Begins (said_in words.now)) words.now reply
             × PutsReply front reply result outbox.old.bytes.items outbox.new.bytes.items self.new.desk }
     {
+        let manner = Manner {
+            front,
+            form: self.form,
+        };
         self.desk.put_end(self.form, outbox);
         match read_game(self.given, words) {
             None => {
                 self.desk = GameDesk::Refused;
-                put_refused(front, GameFault::G3, outbox);
+                put_refused(manner, GameFault::G3, outbox);
                 LineKind::Refused
             }
             Some(line) => {
                 self.desk = GameDesk::Game(GameAtHand::new(&line));
-                put_begun(front, &line, outbox);
+                put_begun(manner, &line, outbox);
                 LineKind::Answered
             }
         }

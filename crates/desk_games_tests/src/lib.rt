@@ -16,6 +16,8 @@ mod filling;
 #[cfg(test)]
 mod lines;
 #[cfg(test)]
+mod objects;
+#[cfg(test)]
 mod pages;
 #[cfg(test)]
 mod undone;

@@ -24,25 +24,34 @@ pub(crate) fn is_answered(
     Ok(report.ok().ok_or("a report")?)
 }
 
-/// The answers to a text under the first profile with what stands below them.
-fn is_told_why(
+/// The answers to a text under the first profile in a form.
+fn is_told(
     rt: &impl Abort,
     is_numbered: bool,
+    form: GamesForm,
     text: &[u8],
     answers: &[u8],
 ) -> Result<(), Fail> {
     let mut reader = BytesIn::new(text, 1000, None);
     let mut writer: BytesOut<ROOM> = BytesOut::new(1000, None);
-    let form = GamesForm::Explained;
     let report = games_text_with(Rules::One, is_numbered, form, &mut reader, &mut writer);
     same(rt, writer.bytes(), answers);
     report.ok().ok_or("a report")?;
     Ok(())
 }
 
-/// The same, behind the numbers of their lines.
+/// The same, with what stands below them, behind the numbers of their lines.
 pub(crate) fn is_numbered_so(rt: &impl Abort, text: &[u8], answers: &[u8]) -> Result<(), Fail> {
-    is_told_why(rt, true, text, answers)
+    is_told(rt, true, GamesForm::Explained, text, answers)
+}
+
+/// The same as objects, with the numbers of their lines.
+pub(crate) fn are_numbered_objects(
+    rt: &impl Abort,
+    text: &[u8],
+    answers: &[u8],
+) -> Result<(), Fail> {
+    is_told(rt, true, GamesForm::Objects, text, answers)
 }
 
 /// The answers to a text under the first profile, and how many lines are answered and refused.
@@ -94,6 +103,17 @@ pub(crate) fn is_worked(rt: &impl Abort, page: &[u8]) -> Result<(), Fail> {
 
 /// A text of games is answered so, with what stands below the answers.
 pub(crate) fn is_explained(rt: &impl Abort, page: &[u8]) -> Result<(), Fail> {
+    is_told_as(rt, GamesForm::Explained, page)
+}
+
+/// A text of games is answered so in a form.
+pub(crate) fn is_told_as(rt: &impl Abort, form: GamesForm, page: &[u8]) -> Result<(), Fail> {
     let page = read_page(page)?;
-    is_told_why(rt, false, page.text.as_slice(), page.answers.as_slice())
+    is_told(
+        rt,
+        false,
+        form,
+        page.text.as_slice(),
+        page.answers.as_slice(),
+    )
 }

@@ -1,8 +1,9 @@
 -- Lines of more than 4,096 bytes, of which only a front is held: they set no profile, and are all answered alike.
 use Rattle.std.specs.Prelude.{◌≡◌, ℕ, ◌<◌, List, ◌++◌, Bool, length, codes, Option, Some, None, Result, Ok, Err, ◌||◌, if◌then◌else◌}
 use Rattle.std.specs.List.{list_any}
-use Rattle.std.proofs.Common.{sym, subst, ap, ◌∙◌}
-use Rattle.std.proofs.lemmas.Bool.{lt-ltb}
+use Rattle.std.proofs.Common.{inl, inr, sym, subst, ap, ◌∙◌}
+use Rattle.std.proofs.lemmas.Bool.{lt-ltb, false≢true}
+use Rattle.std.proofs.Math.Nat.{le_trans}
 use Rattle.riichi_hand.specs.declared.fault.LineCode.TheVariants.{H1}
 use Rattle.riichi_hand.specs.declared.fault.LineFault.{LineFault}
 use Rattle.riichi_hand.specs.declared.fault.LineFault.TheVariants.{Line}
@@ -17,7 +18,7 @@ use Rattle.riichi_hand.specs.Words.{words_of}
 use Rattle.riichi_explain.specs.declared.explaining.Shown.{Shown}
 use Rattle.riichi_explain.specs.Explanation.{IsOutcomeText, IsExplanation}
 use Rattle.riichi_refusals.specs.Refusal.{long_refusals_alike}
-use Rattle.riichi_hints.specs.Hint.{IsRefusalText, told_line}
+use Rattle.riichi_hints.specs.Hint.{IsRefusalText, IsHintOrNone, told_line}
 use Rattle.desk_lines.specs.Explained.{IsToldWithWhy, IsExplained}
 use Rattle.desk_lines.specs.Profile.{profile_of, profile_of_words}
 use Rattle.desk_lines.specs.LineAnswer.{answer_of, outcome_text, IsBy}
@@ -48,14 +49,19 @@ answers_alike rules line other told long long_other is = is ∙ long_answer rule
 
 -- ---- their explanations
 
--- their refusals are told alike, whatever is tried below
+-- no line is tried below a line that is so long
+hint_kept : (rules : Rules) (line other hint : List ℕ) → 4096 < length line → IsHintOrNone rules line hint → IsHintOrNone rules other hint
+hint_kept rules line other hint long (inl none) = inl none
+hint_kept rules line other hint long (inr is) = absurd (false≢true (lt-ltb 4096 512 (le_trans long is.is_hint.is_short)))
+
+-- their refusals are told alike
 refusal_kept : (rules : Rules) (line other why : List ℕ) → 4096 < length line → 4096 < length other → IsRefusalText rules line (Line H1) why → IsRefusalText rules other (Line H1) why
 refusal_kept rules line other why long long_other said =
-    let below = told_line (codes "  ") said.note ++ told_line (codes "  try: ") said.hint in record {
+    let below = told_line (codes "  ") said.note ++ said.hint in record {
       note = said.note;
       is_note = said.is_note;
       hint = said.hint;
-      is_hint = said.is_hint;
+      is_hint = hint_kept rules line other said.hint long said.is_hint;
       text_is = said.text_is ∙ ap (λ (front : List ℕ). front ++ below) (long_refusals_alike line other long long_other);
     }
 

@@ -18,6 +18,7 @@ use Rattle.desk_cli.specs.declared.request.GameManner.{GameManner}
 abbrev pub form_of : GameForm → GamesForm
 form_of asked.Answers = told.Answers
 form_of asked.Explained = told.Explained
+form_of asked.Objects = told.Objects
 
 -- The lines of a text of games have these answers, which were written, with the end of the last game behind them; and it was noted
 -- whether a line is refused.

@@ -86,6 +86,7 @@ fn form_of(form: GameForm) -> GamesForm
     match form {
         GameForm::Answers => GamesForm::Answers,
         GameForm::Explained => GamesForm::Explained,
+        GameForm::Objects => GamesForm::Objects,
     }
 }
 

@@ -1,5 +1,5 @@
 -- The lines of a refusal begin with two spaces, and each ends with its line feed.
-use Rattle.std.proofs.Common.{◌≡◌, ℕ, ◌+◌, ◌-◌, ◌/◌, ◌%◌, ◌<◌, List, [], ◌∷◌, ◌++◌, Bool, true, false, cond, nat_lt, take, replicate, Option, Some, None, refl, ap, ◌∙◌, arith}
+use Rattle.std.proofs.Common.{◌≡◌, ℕ, ◌+◌, ◌-◌, ◌/◌, ◌%◌, ◌<◌, List, [], ◌∷◌, ◌++◌, Bool, true, false, cond, nat_lt, take, replicate, Option, Some, None, inl, inr, refl, ap, ◌∙◌, arith}
 use Rattle.std.specs.Prelude.{codes, ◌||◌, unwrap_or, IfSome}
 use Rattle.std.specs.List.{list_all, list_any}
 use Rattle.std.proofs.lemmas.Bool.{and_parts, or_parts, not-true}
@@ -19,7 +19,7 @@ use Rattle.riichi_refusals.specs.Refusal.{named_word, word_line, foreign_lines, 
 use Rattle.riichi_refusals.specs.Shown.{hex_digit, byte_text, shown, around, shown_line, mark_line, marked_lines}
 use Rattle.riichi_refusals.proofs.QuietWords.{is_quiet, quiet, refusal_words-quiet, key_name-quiet}
 use Rattle.riichi_explain.proofs.PlainTexts.{plain, after, after3, byte-plain, flat_map-plain, replicate-plain, are_indented, pass, lines-append}
-use Rattle.riichi_hints.specs.Hint.{IsNote, IsAnswered, IsPrintable, told_line, IsRefusalText}
+use Rattle.riichi_hints.specs.Hint.{IsNote, IsPrintable, told_line, said_if, mark_of, IsHintOrNone, IsRefusalText}
 
 -- ---- what is shown of a line
 
@@ -128,13 +128,24 @@ note-lines : (P : List ℕ → Type 0) (note : Option (List ℕ)) → IfSome not
 note-lines P None p = refl
 note-lines P (Some words) p = pass words (10 ∷ []) (printable-plain words p.1)
 
-hint-lines : (P : List ℕ → Type 0) (hint : Option (List ℕ)) → IfSome hint (λ words. P words × IsPrintable words) → are_indented (told_line (codes "  try: ") hint) ≡ true
-hint-lines P None p = refl
-hint-lines P (Some words) p = pass (codes "try: " ++ words) (10 ∷ []) (after (codes "try: ") words refl (printable-plain words p.1))
+account-lines : (account : List ℕ) → IsPrintable account → are_indented (told_line (codes "  here") (said_if account)) ≡ true
+account-lines [] p = refl
+account-lines (byte ∷ account) p = pass (codes "here" ++ (byte ∷ account)) (10 ∷ []) (after (codes "here") (byte ∷ account) refl (printable-plain (byte ∷ account) p))
+
+shown-lines : (guess : Bool) (shown : List ℕ) → IsPrintable shown → are_indented (told_line (mark_of guess) (Some shown)) ≡ true
+shown-lines true shown p = pass (codes "guess: " ++ shown) (10 ∷ []) (after (codes "guess: ") shown refl (printable-plain shown p))
+shown-lines false shown p = pass (codes "try: " ++ shown) (10 ∷ []) (after (codes "try: ") shown refl (printable-plain shown p))
+
+hint-lines : (rules : Rules) (line hint : List ℕ) → IsHintOrNone rules line hint → are_indented hint ≡ true
+hint-lines rules line hint (inl none) = ap are_indented none
+hint-lines rules line hint (inr is) =
+    let told = is.told in
+    let account = told_line (codes "  here") (said_if is.account) in
+    let shown = told_line (mark_of is.guess) (Some is.shown) in
+    ap are_indented told.text_is ∙ lines-append account shown (account-lines is.account told.is_printable_too) (shown-lines is.guess is.shown told.is_printable)
 
 pub refusal_text-lines : (rules : Rules) (line : List ℕ) (fault : LineFault) (said : List ℕ) → IsRefusalText rules line fault said → are_indented said ≡ true
 refusal_text-lines rules line fault said is =
     let note = told_line (codes "  ") is.note in
-    let hint = told_line (codes "  try: ") is.hint in
-    let below = lines-append note hint (note-lines (IsNote fault line) is.note is.is_note) (hint-lines (IsAnswered rules) is.hint is.is_hint) in
-    ap are_indented is.text_is ∙ lines-append (refusal_lines line fault) (note ++ hint) (refusal_lines-lines line fault) below
+    let below = lines-append note is.hint (note-lines (IsNote fault line) is.note is.is_note) (hint-lines rules line is.hint is.is_hint) in
+    ap are_indented is.text_is ∙ lines-append (refusal_lines line fault) (note ++ is.hint) (refusal_lines-lines line fault) below

@@ -13,7 +13,7 @@ fn hints(rt: &impl Abort, hint: &str, lines: &[&str]) -> Result<(), Fail> {
     for line in lines {
         holds(rt, read_line(Rules::One, line.as_bytes()).is_err());
         match hint_of(Rules::One, line.as_bytes()) {
-            Some(found) => match std::str::from_utf8(found.as_slice()) {
+            Some(found) => match std::str::from_utf8(found.line.as_slice()) {
                 Ok(text) => same_in(rt, line, text, hint),
                 Err(_) => return Err("a hint that is no text")?,
             },
@@ -102,7 +102,7 @@ fn rules_of_the_line(rt: HostRuntime) -> Result<(), Fail> {
         let Some(hint) = hint_of(rules, line.as_bytes()) else {
             return Err("a line without a hint")?;
         };
-        same(&rt, hint.as_slice(), wanted.as_bytes());
+        same(&rt, hint.line.as_slice(), wanted.as_bytes());
     }
     Ok(())
 }

@@ -19,6 +19,6 @@ mod values;
 
 pub use end_words::{MOST_END_REASON, push_end_reason};
 pub use ends::{EndReason, end_reason};
-pub use moved::{MOST_MOVE, push_move};
+pub use moved::{MOST_MOVE, push_move, unparted, win_of};
 pub use sums::{MOST_FINAL_REASONS, push_final_reasons};
 pub use values::{MOST_VALUE, push_value};

@@ -58,8 +58,8 @@ pub fn push_move(text: &mut AnswerText, names: &Names, counters: u8, outcome: &O
     }
 }
 
-/// What a player has won.
-fn win_of(outcome: &Outcome, player: Player) -> Option<Win>
+/// What a player has won by an outcome.
+pub fn win_of(outcome: &Outcome, player: Player) -> Option<Win>
     ensures { result ≡ of_player (wins_in outcome.now) player }
 {
     let wins = match outcome {
@@ -154,8 +154,8 @@ fn push_won_hand(text: &mut AnswerText, outcome: &Outcome, win: Option<Win>)
     }
 }
 
-/// The limits that nobody else is liable for, or the whole hand.
-fn unparted(outcome: &Outcome, worth: Worth, liable: Option<Liable>) -> Worth
+/// What of a hand is paid for as ever: the limits that nobody but the discarder is liable for, or the whole hand.
+pub fn unparted(outcome: &Outcome, worth: Worth, liable: Option<Liable>) -> Worth
     ensures { result ≡ spec.unparted outcome.now worth liable }
 {
     match liable {

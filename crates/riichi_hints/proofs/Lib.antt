@@ -1,2 +1,4 @@
 pub mod NearLemmas
 pub mod Rooms
+pub mod AccountLemmas
+pub mod PlainLemmas

@@ -178,13 +178,13 @@ reached_at rows i edits name d are h near =
     (i, row, simp length-map (omega arith), get_or-map row_of rows i d row h, (refl, near))
 
 pub nearest_at : (name : List ℕ) (edits : ℕ) (meaning : Meaning)
-    → edits ≤ 2 → 2 * edits < length name
+    → edits ≤ 2 → 2 * edits ≤ length name
     → ((fewer : ℕ) → fewer < edits → All (λ row. IsWithin fewer row.0 name → ⊥) names)
     → IsReached edits name meaning → IsNearest name meaning
 nearest_at name edits meaning few half none reached = record {
   edits = edits;
   few = few;
-  fewer_than_half = half;
+  half_at_most = half;
   reached = reached;
   least = λ fewer other few h. none fewer few h.0 h.1 h.2 (subst (λ (row : List ℕ × Meaning). IsWithin fewer row.0 name) (sym h.3) h.4.1);
 }

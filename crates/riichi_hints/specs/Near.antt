@@ -55,11 +55,11 @@ names = map (λ row. (row.0.now, row.1)) NAMES
 abbrev pub IsReached : ℕ → List ℕ → Meaning → Type 0
 IsReached edits name meaning = Any (λ row. (row.1 ≡ meaning) × IsWithin edits row.0 name) names
 
--- So many edits reach a name that means this, two at most and fewer than half of the letters, and fewer edits reach none.
+-- So many edits reach a name that means this, two at most and no more than half of the letters, and fewer edits reach none.
 pub record IsNearest (name : List ℕ) (meaning : Meaning) : Type 0 where
   pub edits : ℕ
   pub few : edits ≤ 2
-  pub fewer_than_half : 2 * edits < length name
+  pub half_at_most : 2 * edits ≤ length name
   pub reached : IsReached edits name meaning
   pub least : (fewer : ℕ) (other : Meaning) → fewer < edits → IsReached fewer name other → ⊥
 
@@ -74,6 +74,7 @@ said_under (meaning.By by) = Some key.By
 said_under (meaning.Flag flag) = Some key.Flags
 said_under meaning.DoubleRiichi = Some key.Riichi
 said_under meaning.Meld = Some key.Open
+said_under meaning.Unsaid = None
 
 -- The note names the key of a name than which none is nearer to that of the word, and another than the word has.
 pub record IsKeyNote (from : Option (List ℕ)) (note : List ℕ) : Type 0 where

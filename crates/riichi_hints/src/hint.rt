@@ -1,14 +1,16 @@
 //! The lines that follow a refusal, and among them a line that is answered.
-ghost use Rattle.std.specs.Prelude.{◌≡◌, ◌+◌, ◌≤◌, ◌++◌, ℕ, List, Option, Some, IfNone, IfSome, length, codes, false, IsTrue, ◌↔◌};
+ghost use Rattle.std.specs.Prelude.{◌≡◌, ◌⊎◌, [], ◌+◌, ◌≤◌, ◌++◌, ℕ, List, Option, Some, IfNone, IfSome, length, codes, false, IsTrue, ◌↔◌};
 ghost use Rattle.std.specs.List.{list_any};
 ghost use Rattle.arrayvec.specs.ArrayString.{array_string_len};
 ghost use Rattle.riichi_hand.specs.Lines.{outcome_of, is_other_byte};
 ghost use Rattle.riichi_hand.specs.Refusals.{IsRefusalOf};
-ghost use Rattle.riichi_hints.specs.Hint.{is_record, IsNote, IsAnswered, IsPrintable, HaveNoPlace, IsNoteUntold, told_line, IsRefusalText, HasItsNote};
+ghost use Rattle.riichi_hints.specs.Hint.{is_record, IsNote, IsAnswered, IsPrintable, HaveNoPlace, IsNoteUntold, told_line, IsRefusalText, HasItsNote, IsHint, HintText, IsHintOrNone, mark_of};
 
+use crate::account::{AccountText, account_of, has_guess};
 use crate::draft::Draft;
 use crate::notes::note_of;
 use crate::plain::plain_line;
+use crate::role::Spot;
 use crate::text::{Line, MOST};
 use riichi_hand::{Refusal, Rules, has_other_byte, read_line};
 use riichi_refusals::{MOST_REFUSAL, push_refusal_lines};
@@ -43,29 +45,80 @@ fn push_note(text: &mut AnswerText, line: &[u8], refusal: &Refusal<'_>)
 }
 
 fn push_hint(text: &mut AnswerText, rules: Rules, line: &[u8])
-    ensures { (hint : Option (List ℕ)) × IfSome hint (λ one. IsAnswered rules one × IsPrintable one)
-        × (text.new.bytes ≡ text.old.bytes ++ told_line (codes "  try: ") hint) }
+    ensures { (hint : List ℕ) × IsHintOrNone rules line.now hint
+        × (text.new.bytes ≡ text.old.bytes ++ hint) }
 {
     if let Some(hint) = hint_of(rules, line) {
-        push_line(text, "  try: ", hint.as_slice());
+        push_tried(text, &hint);
+    }
+}
+
+/// Writes what became of the words, and below it the line, where they are printable and there is room for both.
+fn push_tried(text: &mut AnswerText, hint: &Hint)
+    ensures { (said : List ℕ)
+        × ((said ≡ []) ⊎ (HintText hint.now.line.items hint.now.account.items hint.now.is_guess said))
+        × (text.new.bytes ≡ text.old.bytes ++ said) }
+{
+    let (line, account) = (hint.line.as_slice(), hint.account.as_slice());
+    if has_other_byte(line)
+        || has_other_byte(account)
+        || text.remaining_capacity() < line.len() + account.len() + 20
+    {
+        return;
+    }
+    if !account.is_empty() {
+        push_line(text, "  here", account);
+    }
+    push_line(text, hint.mark(), line);
+}
+
+/// A line that is answered, and what became of the words of the refused one in it.
+#[derive(Drop)]
+pub struct Hint {
+    pub line: Line,
+    /// What is read as something else, what is left out, and what is a guess; empty where each word is kept.
+    pub account: AccountText,
+    /// A word of the line is a guess.
+    pub is_guess: bool,
+}
+
+impl Hint {
+    /// What stands before the line.
+    fn mark(&self) -> &'static str
+        ensures value { result.now ≡ mark_of self.now.is_guess }
+        ensures short { length result.now ≤ 9 }
+    {
+        if self.is_guess {
+            "  guess: "
+        } else {
+            "  try: "
+        }
     }
 }
 
 /// A line like this one that is answered under these rules, where one is found: what a loose reading of its words makes of it.
-pub fn hint_of(rules: Rules, line: &[u8]) -> Option<Line>
-    ensures { IfSome result (λ hint. IsAnswered rules hint.items) }
+pub fn hint_of(rules: Rules, line: &[u8]) -> Option<Hint>
+    ensures { IfSome result (λ hint.
+        IsHint rules line.now hint.line.items hint.account.items hint.is_guess) }
 {
     if !is_read(line) {
         return None;
     }
-    let mut draft = Draft::read(plain_line(line).as_slice());
+    let plain = plain_line(line);
+    let mut draft = Draft::read(plain.as_slice());
     draft.mend(rules);
-    let hint = draft.line();
-    if is_answered(rules, hint.as_slice()) {
-        Some(hint)
-    } else {
-        None
+    let line = draft.line();
+    if !is_answered(rules, line.as_slice()) {
+        return None;
     }
+    let (roles, shown) = (draft.roles.as_slice(), line.as_slice());
+    let is_guess = has_guess(roles, Spot::First, shown);
+    let account = account_of(plain.as_slice(), roles, shown)?;
+    Some(Hint {
+        line,
+        account,
+        is_guess,
+    })
 }
 
 /// A line that isn't too long is read loosely.
@@ -86,16 +139,16 @@ fn is_answered(rules: Rules, line: &[u8]) -> bool
 
 /// Writes a line of words where they are printable and there is room.
 fn push_line(text: &mut AnswerText, before: &str, words: &[u8])
-    requires { length before.now ≤ 8 }
+    requires { length before.now ≤ 9 }
     ensures room { list_any is_other_byte words.now ≡ false
-        → array_string_len text.old + length words.now + 9 ≤ ANSWER_ROOM
+        → array_string_len text.old + length words.now + 10 ≤ ANSWER_ROOM
         → text.new.bytes ≡ text.old.bytes ++ told_line before.now (Some words.now) }
     ensures line { (told : Option (List ℕ))
         × IfSome told (λ line. (line ≡ words.now) × IsPrintable line)
         × IfNone told (HaveNoPlace (array_string_len text.old) words.now)
         × (text.new.bytes ≡ text.old.bytes ++ told_line before.now told) }
 {
-    if has_other_byte(words) || text.remaining_capacity() < words.len() + 9 {
+    if has_other_byte(words) || text.remaining_capacity() < words.len() + 10 {
         return;
     }
     if let Ok(words) = std::str::from_utf8(words) {

@@ -37,13 +37,13 @@ impl Draft {
         !self.on.is_empty() || !self.by.is_empty() || !self.seat.is_empty()
     }
 
-    fn wanted(&self) -> usize
+    pub(crate) fn wanted(&self) -> usize
         ensures { result ≤ 13 }
     {
         wanted_beside(usize::from(self.meld_count))
     }
 
-    fn hand_count(&self) -> usize {
+    pub(crate) fn hand_count(&self) -> usize {
         tile_count(self.hand.as_slice())
     }
 

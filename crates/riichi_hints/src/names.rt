@@ -28,10 +28,13 @@ pub(crate) enum Meaning {
     DoubleRiichi,
     /// A meld whose tiles follow.
     Meld,
+    /// Something of a game that no key of a line says.
+    Unsaid,
 }
 
-/// The names, in small letters and without hyphens. The first of each key is its own.
-const NAMES: [(&str, Meaning); 89] = [
+/// The names, in small letters and without hyphens. The first of each key is its own. Of names that are equally near to a word the first
+/// is taken, so the shortest keys are the last.
+const NAMES: [(&str, Meaning); 97] = [
     ("win", Meaning::Job(JobName::Win)),
     ("wins", Meaning::Job(JobName::Win)),
     ("won", Meaning::Job(JobName::Win)),
@@ -48,13 +51,6 @@ const NAMES: [(&str, Meaning); 89] = [
     ("discard", Meaning::Job(JobName::Shape)),
     ("hand", Meaning::Hand),
     ("tiles", Meaning::Hand),
-    ("on", Meaning::Key(Key::On)),
-    ("tile", Meaning::Key(Key::On)),
-    ("wintile", Meaning::Key(Key::On)),
-    ("winningtile", Meaning::Key(Key::On)),
-    ("agarihai", Meaning::Key(Key::On)),
-    ("by", Meaning::Key(Key::By)),
-    ("how", Meaning::Key(Key::By)),
     ("seat", Meaning::Key(Key::Seat)),
     ("seatwind", Meaning::Key(Key::Seat)),
     ("wind", Meaning::Key(Key::Seat)),
@@ -121,6 +117,21 @@ const NAMES: [(&str, Meaning); 89] = [
     ("kan", Meaning::Meld),
     ("kong", Meaning::Meld),
     ("ankan", Meaning::Meld),
+    ("kyoku", Meaning::Unsaid),
+    ("pao", Meaning::Unsaid),
+    ("liable", Meaning::Unsaid),
+    ("han", Meaning::Unsaid),
+    ("fu", Meaning::Unsaid),
+    ("points", Meaning::Unsaid),
+    ("from", Meaning::Unsaid),
+    ("loser", Meaning::Unsaid),
+    ("on", Meaning::Key(Key::On)),
+    ("tile", Meaning::Key(Key::On)),
+    ("wintile", Meaning::Key(Key::On)),
+    ("winningtile", Meaning::Key(Key::On)),
+    ("agarihai", Meaning::Key(Key::On)),
+    ("by", Meaning::Key(Key::By)),
+    ("how", Meaning::Key(Key::By)),
 ];
 
 /// What a word means that is one of the names.
@@ -128,12 +139,12 @@ pub(crate) fn meaning_of(word: &[u8]) -> Option<Meaning> {
     near_meaning(&NAMES, 0, name_of(word)?.as_slice())
 }
 
-/// What the name nearest to a word means, where at most two edits lead there, fewer than half of the word's letters.
+/// What the name nearest to a word means, where at most two edits lead there, and no more than half of the word's letters.
 pub(crate) fn nearest_meaning(word: &[u8]) -> Option<Meaning>
     ensures { IfSome result (λ meaning. IsNearest (spec.plain_name word.now) meaning) }
 {
     let name = name_of(word)?;
-    for edits in 0..name.len().div_ceil(2).min(3) {
+    for edits in 0..(name.len() / 2 + 1).min(3) {
         if let Some(meaning) = near_meaning(&NAMES, edits, name.as_slice()) {
             return Some(meaning);
         }
@@ -157,7 +168,7 @@ fn near_meaning(names: &[(&str, Meaning)], edits: usize, name: &[u8]) -> Option<
 
 /// The word in small letters, without what joins its parts; none where it is longer than any name.
 #[tactic(auto, using(crate::proofs::NearLemmas::letter_kept, crate::proofs::NearLemmas::letter_left_out))]
-fn name_of(word: &[u8]) -> Option<Part>
+pub(crate) fn name_of(word: &[u8]) -> Option<Part>
     ensures { IfSome result (λ name. name.items ≡ spec.plain_name word.now) }
 {
     let mut name = Part::new();

@@ -1,31 +1,48 @@
 //! A line in printable ASCII, its words parted by spaces alone.
-use crate::text::{Line, add, add_all, last};
+ghost use Rattle.std.specs.Prelude.{◌≡◌, ◌<◌, ◌-◌, [], ◌∷◌, ◌++◌, length, slice_index, true};
+ghost use Rattle.riichi_hints.specs.Plain.{IsMadePlain, stays};
+
+use crate::text::{Line, MOST, add, add_all, last};
 
 /// The line with each tile of Unicode as notation, each full-width letter as a plain one, without quotes, and with spaces for
 /// the marks that part words.
-pub(crate) fn plain_line(line: &[u8]) -> Line {
+pub(crate) fn plain_line(line: &[u8]) -> Line
+    ensures { IsMadePlain line.now result.items }
+{
     let mut plain = Line::new();
     let mut before = [0; 2];
     for byte in line {
-        if *byte < 128 {
-            add_ascii(&mut plain, *byte);
-        } else {
-            add_last_of(&mut plain, before, *byte);
-        }
+        add_byte(&mut plain, before, *byte);
         before = [before[1], *byte];
     }
     plain
 }
 
-/// A mark `=` takes the spaces beside it. `+` begins a word.
-fn add_ascii(plain: &mut Line, byte: u8) {
+/// Adds a byte behind these of the line.
+#[tactic(auto, using(crate::proofs::PlainLemmas::stays_below))]
+fn add_byte(plain: &mut Line, before: [u8; 2], byte: u8)
+    ensures { stays (slice_index plain.old.items (length plain.old.items - 1)) byte ≡ true
+        → length plain.old.items < MOST → plain.new.items ≡ plain.old.items ++ byte ∷ [] }
+{
+    if byte < 128 {
+        add_ascii(plain, byte);
+    } else {
+        add_last_of(plain, before, byte);
+    }
+}
+
+/// A mark `=` or `:` takes the spaces beside it. `+` begins a word.
+fn add_ascii(plain: &mut Line, byte: u8)
+    ensures { stays (slice_index plain.old.items (length plain.old.items - 1)) byte ≡ true
+        → length plain.old.items < MOST → plain.new.items ≡ plain.old.items ++ byte ∷ [] }
+{
     match byte {
         b'"' | b'\'' | b'`' => {}
-        b'=' => {
+        b'=' | b':' => {
             if last(plain.as_slice()) == b' ' {
                 plain.pop();
             }
-            add(plain, b'=');
+            add(plain, byte);
         }
         b'+' => add_all(plain, b" +"),
         b' ' | b'\t' | b',' | b';' | b'|' | b'/' => add_space(plain),
@@ -35,8 +52,11 @@ fn add_ascii(plain: &mut Line, byte: u8) {
     }
 }
 
-fn add_space(plain: &mut Line) {
-    if last(plain.as_slice()) != b' ' && last(plain.as_slice()) != b'=' {
+fn add_space(plain: &mut Line)
+    ensures { stays (slice_index plain.old.items (length plain.old.items - 1)) 32 ≡ true
+        → length plain.old.items < MOST → plain.new.items ≡ plain.old.items ++ 32 ∷ [] }
+{
+    if !matches!(last(plain.as_slice()), b' ' | b'=' | b':') {
         add(plain, b' ');
     }
 }

@@ -1,5 +1,5 @@
 //! Texts of limited length. What has no room is left out.
-ghost use Rattle.std.specs.Prelude.{◌≡◌, ◌≤◌, ◌+◌, ◌++◌, ℕ, List, length, decimal};
+ghost use Rattle.std.specs.Prelude.{◌≡◌, ◌<◌, ◌≤◌, ◌+◌, ◌-◌, [], ◌∷◌, ◌++◌, ℕ, List, length, slice_index, decimal};
 ghost use Rattle.riichi_hints.specs.Crowd as spec;
 
 use arrayvec::{ArrayString, ArrayVec};
@@ -18,7 +18,9 @@ pub(crate) const PART: usize = 128;
 pub(crate) type Part = ArrayVec<u8, PART>;
 
 /// Adds a byte, where there is room.
-pub(crate) fn add<const N: usize>(text: &mut ArrayVec<u8, N>, byte: u8) {
+pub(crate) fn add<const N: usize>(text: &mut ArrayVec<u8, N>, byte: u8)
+    ensures { length text.old.items < N → text.new.items ≡ text.old.items ++ byte ∷ [] }
+{
     let _ = text.try_push(byte);
 }
 
@@ -32,7 +34,9 @@ pub(crate) fn add_all<const N: usize>(text: &mut ArrayVec<u8, N>, bytes: &[u8])
 }
 
 /// The last byte, 0 where there is none.
-pub(crate) fn last(text: &[u8]) -> u8 {
+pub(crate) fn last(text: &[u8]) -> u8
+    ensures { result ≡ slice_index text.now (length text.now - 1) }
+{
     match text {
         [.., last] => *last,
         [] => 0,

@@ -22,6 +22,11 @@ pub(crate) fn are_tiles(word: &[u8]) -> bool {
     spells && !is_digit(last(word)) && (tile_count(word) > 0 || !lower)
 }
 
+/// Whether a word has digits alone.
+pub(crate) fn is_number(word: &[u8]) -> bool {
+    word.iter().all(|byte| is_digit(*byte))
+}
+
 /// How many tiles a text spells: each digit is one.
 pub(crate) fn tile_count(text: &[u8]) -> usize
     ensures { result ≡ numbers.tiles_in text.now }

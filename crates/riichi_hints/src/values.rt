@@ -1,21 +1,81 @@
 //! The values that are no tiles, as players write them.
+use crate::names::name_of;
 
-/// A wind by its name in English, Japanese or Chinese, its letter or its number; East also as the dealer, `oya`.
-/// What is none of these is `?`, which no line may have.
-pub(crate) fn wind_of(value: &[u8]) -> &'static str {
-    match value {
-        [b'n' | b'N', b'a' | b'A', ..] => "S",
-        [b's' | b'S', b'h' | b'H', ..] => "W",
-        [
-            b'e' | b'E' | b't' | b'T' | b'd' | b'D' | b'o' | b'O' | b'1',
-            ..
-        ] => "E",
-        [b's' | b'S' | b'2', ..] => "S",
-        [b'w' | b'W' | b'x' | b'X' | b'3', ..] => "W",
-        [b'n' | b'N' | b'p' | b'P' | b'b' | b'B' | b'4', ..] => "N",
-        [] => "",
-        _ => "?",
+/// The winds by their names in English, Japanese, Chinese, German, French and Polish, in small letters (others are left out by
+/// then), by their letters and by their numbers; East also as the dealer.
+const WINDS: [(&str, &str); 43] = [
+    ("e", "E"),
+    ("1", "E"),
+    ("east", "E"),
+    ("ton", "E"),
+    ("tou", "E"),
+    ("higashi", "E"),
+    ("dong", "E"),
+    ("ost", "E"),
+    ("osten", "E"),
+    ("est", "E"),
+    ("wschod", "E"),
+    ("wschd", "E"),
+    ("dealer", "E"),
+    ("oya", "E"),
+    ("s", "S"),
+    ("2", "S"),
+    ("south", "S"),
+    ("nan", "S"),
+    ("minami", "S"),
+    ("sued", "S"),
+    ("sueden", "S"),
+    ("sd", "S"),
+    ("sden", "S"),
+    ("sud", "S"),
+    ("poludnie", "S"),
+    ("poudnie", "S"),
+    ("w", "W"),
+    ("3", "W"),
+    ("west", "W"),
+    ("westen", "W"),
+    ("shaa", "W"),
+    ("sha", "W"),
+    ("nishi", "W"),
+    ("xi", "W"),
+    ("ouest", "W"),
+    ("zachod", "W"),
+    ("zachd", "W"),
+    ("n", "N"),
+    ("4", "N"),
+    ("north", "N"),
+    ("pei", "N"),
+    ("kita", "N"),
+    ("bei", "N"),
+];
+
+/// The wind that a word names; also with a number behind its letter, as `E1`.
+pub(crate) fn wind_named(word: &[u8]) -> Option<&'static str> {
+    let name = name_of(word)?;
+    match name.as_slice() {
+        [b'e', b'1'..=b'4'] => Some("E"),
+        [b's', b'1'..=b'4'] => Some("S"),
+        [b'w', b'1'..=b'4'] => Some("W"),
+        [b'n', b'1'..=b'4'] => Some("N"),
+        name => wind_of_name(name),
     }
+}
+
+fn wind_of_name(name: &[u8]) -> Option<&'static str> {
+    for (known, wind) in &WINDS {
+        if known.as_bytes() == name {
+            return Some(*wind);
+        }
+    }
+    None
+}
+
+/// A wind by its name. What names none is `?`, which no line may have.
+pub(crate) fn wind_of(value: &[u8]) -> &'static str {
+    if value.is_empty() {
+        return "";
+    }
+    wind_named(value).unwrap_or("?")
 }
 
 /// How a hand is won, by the first letter: `r`on, `d`iscard; `t`sumo, `s`elf-draw, `z`imo.

@@ -12,14 +12,13 @@ returns-clause-note c =
     let note = c.push_note.ensures.0 in
     let hint = c.push_hint.ensures.0 in
     let noted = told_line (codes "  ") note in
-    let tried = told_line (codes "  try: ") hint in
     let used : length c.push_refusal_lines.new.text.bytes ≡ length old + length lines = ap length c.push_refusal_lines.ensures ∙ length-append old lines in
     let one = c.push_note.ensures.3 ∙ ap (λ (text : List ℕ). text ++ noted) c.push_refusal_lines.ensures in
-    let both = c.push_hint.ensures.2 ∙ ap (λ (text : List ℕ). text ++ tried) one in (
-      lines ++ (noted ++ tried),
+    let both = c.push_hint.ensures.2 ∙ ap (λ (text : List ℕ). text ++ hint) one in (
+      lines ++ (noted ++ hint),
       record {
         refusal = record { note = note; is_note = c.push_note.ensures.1; hint = hint; is_hint = c.push_hint.ensures.1; text_is = refl };
         no_note = subst (λ (so_far : ℕ). IfNone note (IsNoteUntold fault line so_far)) used c.push_note.ensures.2;
       },
-      both ∙ (append_assoc (old ++ lines) noted tried ∙ append_assoc old lines (noted ++ tried)),
+      both ∙ (append_assoc (old ++ lines) noted hint ∙ append_assoc old lines (noted ++ hint)),
     )

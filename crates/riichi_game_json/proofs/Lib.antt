@@ -1,0 +1,2 @@
+pub mod FewMoves
+pub mod Pieces
