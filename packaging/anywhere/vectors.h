@@ -115,20 +115,29 @@ static inline u32 v128_any_true(v128 x) { return (LANE(u64, x, 0) | LANE(u64, x,
     OF_TWO(shape##_ge_u, u, ONES_WHERE(a >= b)) \
     OF_TWO(shape##_lt_s, s, ONES_WHERE(a < b)) \
     OF_TWO(shape##_gt_s, s, ONES_WHERE(a > b)) \
+    OF_TWO(shape##_le_s, s, ONES_WHERE(a <= b)) \
+    OF_TWO(shape##_ge_s, s, ONES_WHERE(a >= b)) \
     OF_TWO(shape##_min_u, u, EITHER(u, a < b, a, b)) \
     OF_TWO(shape##_max_u, u, EITHER(u, a > b, a, b)) \
+    OF_TWO(shape##_min_s, s, EITHER(s, a < b, a, b)) \
+    OF_TWO(shape##_max_s, s, EITHER(s, a > b, a, b)) \
     OF_NUMBER(shape##_shl, u, u32, a << n % (8 * sizeof(u))) \
     OF_NUMBER(shape##_shr_u, u, u32, a >> n % (8 * sizeof(u))) \
     OF_NUMBER(shape##_shr_s, s, u32, a >> n % (8 * sizeof(u))) \
     OF_NUMBER(shape##_filled, u, number, a + (u)n) \
     static inline v128 shape##_splat(number n) { return shape##_filled(zeros, n); } \
     static inline v128 shape##_replace_lane(v128 x, number n, u32 at) { WITH_LANE(u, x, at, n); } \
+    static inline v128 shape##_neg(v128 x) { return shape##_sub(zeros, x); } \
+    static inline v128 shape##_abs(v128 x) { return shape##_max_s(x, shape##_neg(x)); } \
     static inline u32 shape##_all_true(v128 x) { return !v128_any_true(shape##_eq(x, zeros)); }
 OF_WIDTH(i8x16, u8, s8, u32)
 OF_WIDTH(i16x8, u16, s16, u32)
 OF_WIDTH(i32x4, u32, s32, u32)
 OF_WIDTH(i64x2, u64, s64, u64)
 static inline v128 v128_not(v128 x) { return i64x2_eq(v128_and(x, zeros), zeros); }
+/* (a u16 is made an int before it is multiplied, and the product of two may not fit one) */
+OF_TWO(i16x8_mul, u16, 1u * a * b)
+OF_TWO(i32x4_mul, u32, a * b)
 OF_TWO(i64x2_mul, u64, a * b)
 OF_TWO(i8x16_add_sat_u, u8, a + EITHER(u8, b < MOST - a, b, (MOST - a)))
 OF_TWO(i8x16_sub_sat_u, u8, a - EITHER(u8, b < a, b, a))
@@ -146,19 +155,21 @@ static inline u32 i32x4_bitmask(v128 x) {
     return LANE(u32, x, 0) >> 31 | LANE(u32, x, 1) >> 31 << 1 | LANE(u32, x, 2) >> 31 << 2 | LANE(u32, x, 3) >> 31 << 3;
 }
 
-/* The lower half of the lanes, each twice as wide. */
-#define WIDER(name, narrow, shape, count) \
+/* A half of the lanes, each twice as wide. */
+#define HALF(name, number, shape, count, first) \
     static inline v128 name(v128 x) { \
         v128 told = NO_VECTOR; \
-        for (u32 at = 0; at < count; at++) told = shape##_replace_lane(told, LANE(narrow, x, at), at); \
+        for (u32 at = 0; at < count; at++) told = shape##_replace_lane(told, LANE(number, x, first + at), at); \
         return told; \
     }
-WIDER(i16x8_extend_low_i8x16_u, u8, i16x8, 8)
-WIDER(i32x4_extend_low_i16x8_u, u16, i32x4, 4)
-WIDER(i64x2_extend_low_i32x4_u, u32, i64x2, 2)
-WIDER(i16x8_extend_low_i8x16_s, s8, i16x8, 8)
-WIDER(i32x4_extend_low_i16x8_s, s16, i32x4, 4)
-WIDER(i64x2_extend_low_i32x4_s, s32, i64x2, 2)
+#define WIDER(shape, narrow, u, s, count) \
+    HALF(shape##_extend_low_##narrow##_u, u, shape, count, 0) \
+    HALF(shape##_extend_high_##narrow##_u, u, shape, count, count) \
+    HALF(shape##_extend_low_##narrow##_s, s, shape, count, 0) \
+    HALF(shape##_extend_high_##narrow##_s, s, shape, count, count)
+WIDER(i16x8, i8x16, u8, s8, 8)
+WIDER(i32x4, i16x8, u16, s16, 4)
+WIDER(i64x2, i32x4, u32, s32, 2)
 
 /* Lanes from memory, each a number of that width. */
 #define LOAD_LANE(bits, shape) \
