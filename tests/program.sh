@@ -106,13 +106,7 @@ row 1 $'waits 123456789m\nrefused N5 hand at 0\nrefused H9\nwaits 25p' '' line
 answers examples/club-night.lines examples/club-night.answers
 answers examples/rules.lines examples/rules.answers
 answers examples/rules-two.lines examples/rules-two.answers
-# in docs/RULES.md an answer stands below its line, after `=> `; a block that begins with `rules 2` is of the second profile, one
-# that begins with `--rules R` of these rules
-echo 'rules 2' > "$room/rules-two.lines"
-awk '/^```/ { name = "rules" } $0 == "rules 2" { name = "rules-two" } /^--rules / { name = "house" $2 }
-  /^=> / { print last > room "/" name ".lines.told"; print substr($0, 4) > room "/" name ".wanted" } { last = $0 }' room="$room" docs/RULES.md
-cat "$room/rules.lines.told" >> "$room/rules.lines"
-cat "$room/rules-two.lines.told" >> "$room/rules-two.lines"
+rules_of_docs
 answers "$room/rules-two.lines" "$room/rules-two.wanted"
 answers "$room/rules.lines" "$room/rules.wanted"
 for wanted in "$room"/house*.wanted; do

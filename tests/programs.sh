@@ -31,6 +31,7 @@ told 'line --json' "$(sha256sum < "$made/json")" "$("$program" line --json < "$m
 # (the validator is the package python3-jsonschema)
 if python3 -c 'import jsonschema' 2> /dev/null; then
   told 'answers by their JSON Schema' "$(wc -l < "$made/wanted") valid" "$(python3 -B tests/valid_answers.py docs/answer.schema.json < "$made/json")"
+  rules_of_docs
   texts=(examples/{club-night,rules,rules-two}.lines "$room"/rules{,-two}.lines tests/hostile/*.lines)
   told 'line --json of the examples, the rules and hostile lines, by the JSON Schema' \
     "$(for text in "${texts[@]}"; do "$program" line < "$text"; done | wc -l) valid" \
