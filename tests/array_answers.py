@@ -3,6 +3,8 @@
 the answer to the line that says the same. Ends with `all right`.
 """
 
+from __future__ import annotations
+
 import array
 import random
 from pathlib import Path
@@ -47,8 +49,11 @@ def try_hands(draw: random.Random, size: int, hands: int) -> None:
     seen = b"".join(counts_of(tiles) for _, _, tiles in rows)
     wanted = [riichi_desk.answer(line_of("shape", *row)) for row in rows]
     assert all(isinstance(it, riichi_desk.Shape) for it in wanted)
-    for given in counts, bytearray(counts), memoryview(counts), array.array("B", counts):
+    wide = [array.array(letter, list(counts)) for letter in "bBhHiIlLqQ"]
+    with_gaps = memoryview(bytes(byte for count in counts for byte in (count, 9)))[::2]
+    for given in counts, bytearray(counts), memoryview(counts), *wide, with_gaps:
         assert list(riichi_desk.shanten(given, melds)) == [it.shanten for it in wanted]
+    assert list(riichi_desk.shanten(counts, array.array("q", list(melds)))) == [it.shanten for it in wanted]
     shapes, discards = riichi_desk.shapes(counts, melds, seen), riichi_desk.discards(counts, melds, seen)
     waits = riichi_desk.waits(counts, melds)
     for row, it in enumerate(wanted):
@@ -151,6 +156,25 @@ def try_wins(rules: int) -> None:
     assert [told_in(score) for score in riichi_desk.wins((riichi_desk.Win * 2)(strange, rows[0]), rules)] == [{"told": 4}, wanted[0]]
 
 
+def try_numpy() -> None:
+    """Arrays of numpy, where it is here: of each integer type and order of bytes, with gaps, by columns, that can't be written to."""
+    try:
+        import numpy
+    except ImportError:
+        return
+    counts = numpy.frombuffer(b"".join(counts_of(random.Random(seed).sample(WALL, 13)) for seed in range(40)), numpy.uint8).reshape(40, 34)
+    wanted = list(riichi_desk.shanten(counts))
+    for letter in "bBhHiIlLqQ":
+        for order in "<>":
+            wide = counts.astype(numpy.dtype(letter).newbyteorder(order))
+            for given in wide, numpy.asfortranarray(wide), numpy.repeat(wide, 2, axis=1)[:, ::2], wide[::-1]:
+                assert list(riichi_desk.shanten(given)) == wanted[:: -1 if given.strides[0] < 0 else 1], (letter, order)
+    rows = numpy.zeros(3, riichi_desk.Win)
+    rows["concealed"][::2, :13], rows["winning"], rows["by"] = counts[0, :13], 8, 1
+    assert [it.told for it in riichi_desk.wins(rows[::2])] == [it.told for it in riichi_desk.wins(rows)][::2]
+    assert refused(counts.astype(float)) and refused(counts.astype(object)) and refused(counts[:, 1:])
+
+
 def refused(*given: object) -> bool:
     try:
         riichi_desk.shanten(*given)  # type: ignore[arg-type]
@@ -186,10 +210,14 @@ def main() -> None:
             try_hands(draw, size, hands)
     assert riichi_desk.shanten(b"").tolist() == [] and riichi_desk.discards(b"").accepts.tolist() == []
     assert riichi_desk.shanten(bytes(34)).tolist() == [riichi_desk.NO_HAND]
-    assert refused(bytes(33)) and refused(bytes(68), bytes(4)) and refused(array.array("H", bytes(68)))
+    assert refused(bytes(33)) and refused(bytes(68), bytes(4)) and refused(array.array("H", bytes(66)))
+    assert refused(array.array("d", [0.0] * 34))
+    for strange in -1, 256, 2**31:
+        assert riichi_desk.shanten(array.array("q", [strange, *[0] * 33, *[1] * 13, *[0] * 21])).tolist()[0] == riichi_desk.NO_HAND
     try_wins(1)
     try_wins(2)
     try_rules()
+    try_numpy()
     assert len(riichi_desk.wins(b"")) == 0
     print("all right")
 

@@ -119,6 +119,11 @@ class Browser:
         self.ask("Emulation.setDeviceMetricsOverride", width=width, height=height, deviceScaleFactor=finer, mobile=touch)
         self.ask("Emulation.setTouchEmulationEnabled", enabled=touch)
 
+    def zoom(self, width: int, height: int) -> None:
+        """A screen of this size at 200 %: half as many pixels of the page in each direction, each twice as fine."""
+        self.ask("Emulation.setDeviceMetricsOverride", width=width // 2, height=height // 2, deviceScaleFactor=2, mobile=False)
+        self.ask("Emulation.setTouchEmulationEnabled", enabled=False)
+
     def scheme(self, name: str) -> None:
         """Light or dark, and no motion, so that colours don't change while they are looked at."""
         wanted = {"prefers-color-scheme": name, "prefers-reduced-motion": "reduce"}

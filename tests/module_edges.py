@@ -4,11 +4,13 @@ threads; the lines are those of FILE. It says `all right` where all are.
 """
 
 import array
+import copy
 import pickle
 import sys
 from concurrent.futures import ThreadPoolExecutor
 
 import riichi_desk
+
 WAITS = "waits 1112345678999m"
 
 
@@ -57,6 +59,36 @@ def try_values() -> None:
     assert found[1].discards["8p"].kinds == {"2p": 4, "5p": 4}
 
 
+def try_items() -> None:
+    told = riichi_desk.answers([WAITS] * 3)
+    for wrong, sort in (5, TypeError), (None, TypeError), (["waits"], TypeError), ("waits \ud800", ValueError):
+        for call in riichi_desk.texts, riichi_desk.jsons, riichi_desk.answers:
+            try:
+                call([WAITS, WAITS.encode(), wrong])
+            except sort as error:
+                assert "item 2: " in str(error), error
+                continue
+            raise AssertionError(wrong)
+    for text in WAITS, WAITS.encode(), bytearray(WAITS.encode()), memoryview(WAITS.encode()):
+        try:
+            riichi_desk.answers(text)
+        except TypeError as error:
+            assert "a list of lines" in str(error)
+            continue
+        raise AssertionError(text)
+    # read by threads at once, pickled unread and read, never changed
+    with ThreadPoolExecutor(4) as pool:
+        assert set(pool.map(lambda _: told[0].kinds, range(100))) == {told[0].kinds}
+    assert pickle.loads(pickle.dumps(told)) == copy.deepcopy(told) == told and hash(told[1]) == hash(told[2])
+    for change in (lambda: setattr(told[0], "kinds", ()), lambda: delattr(told[1], "kinds"), lambda: told[2].kind):
+        try:
+            change()
+        except AttributeError:
+            continue
+        raise AssertionError(change)
+    assert riichi_desk.__version__ == riichi_desk.version().split()[1]
+
+
 def try_games() -> None:
     text = "game 東 南 西 北\r\nron 南 from 西 1.30\nend\ngame"
     told = riichi_desk.game(text)
@@ -79,6 +111,7 @@ def try_many(text: bytes) -> None:
     assert riichi_desk.texts([]) == [] and riichi_desk.texts([""]) == [None]
     wanted = "".join(f"{it}\n" for it in told if it is not None).encode()
     assert riichi_desk.lines(text) == wanted and riichi_desk.lines(b"") == b""
+    assert riichi_desk.lines(text.decode("utf-8", "surrogateescape")) == riichi_desk.lines(bytearray(text)) == wanted
     within = b"waits 1m\nwaits 2m"
     assert riichi_desk.texts([within, WAITS]) == [riichi_desk.text(within), riichi_desk.text(WAITS)]
     assert riichi_desk.texts([within.decode(), WAITS]) == riichi_desk.texts([within, WAITS])
@@ -93,6 +126,7 @@ if __name__ == "__main__":
     try_lines()
     try_rules()
     try_values()
+    try_items()
     try_games()
     try_many(front)
     print("all right")

@@ -1,4 +1,5 @@
-import { answer, answerLines, answers, explain, Game, game, table, text, type Answer, type Outcome } from "riichi_desk";
+import { answer, answerLines, answers, discards, explain, Game, game, NO_HAND, pon, shanten, table, text } from "riichi_desk";
+import { type Answer, type Outcome } from "riichi_desk";
 
 function told(it: Answer): string {
   switch (it.answer) {
@@ -23,3 +24,9 @@ for (const outcome of outcomes) played.add(outcome);
 const needed = played.need(0, 2).off[1]?.strictly?.discarder ?? 0;
 console.log(played.state.round, played.changes[0], played.moves[0]?.why, played.final()[3].total + needed, played.undo()?.kind, played.isOver);
 console.log(game("game\ndraw\n").length, game(new Uint8Array(), 2).length);
+
+const counts = new Uint8Array(68);
+const { kinds, live } = discards(counts, { melds: [pon(27), 0, 0, 0, 0, 0, 0, 0], seen: new Int32Array(68) });
+console.log(shanten(counts)[0] === NO_HAND, kinds[0] & 1n, live[33]);
+// @ts-expect-error: one text is not many lines
+answers("waits 1m");

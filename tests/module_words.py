@@ -3,10 +3,7 @@
 
 import doctest
 
-import riichi_desk.games
-import riichi_desk.ledger
-import riichi_desk.records
-import riichi_desk.values
+from riichi_desk import arrays, as_json, games, hints, ledger, many, questions, records, rules, scores, tiles, values
 
-for module in riichi_desk.games, riichi_desk.ledger, riichi_desk.records, riichi_desk.values:
+for module in arrays, as_json, games, hints, ledger, many, questions, records, rules, scores, tiles, values:
     doctest.testmod(module)

@@ -38,9 +38,10 @@ else
   skip 'the package in browsers' 'chromium-driver, firefox-esr, webkit2gtk-driver or xvfb'
 fi
 if has node; then
-  sed 's/WebAssembly.validate(.*)$/false/' "$shelf/node/node_modules/riichi_desk/riichi_desk.js" > "$shelf/node/node_modules/riichi_desk/plain.js"
-  sed 's|"./riichi_desk.js"|"./plain.js"|' "$shelf/node/node_modules/riichi_desk/command.js" > "$shelf/node/node_modules/riichi_desk/by-plain.js"
-  same 'Node without vectors' wanted node "$shelf/node/node_modules/riichi_desk/by-plain.js" line
+  cp -r "$shelf/node/node_modules/riichi_desk" "$shelf/plain"
+  sed -i 's/^\(export const HAS_VECTORS = \).*/\1false;/' "$shelf/plain/vectors.js"
+  rm "$shelf/plain/riichi_desk.wasm"
+  same 'Node without vectors' wanted node "$shelf/plain/command.js" line
 fi
 
 # Debian's packages, and the wheel, on an empty root

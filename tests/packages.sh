@@ -88,6 +88,7 @@ if [ -f "$wheel" ] && /usr/bin/python3 -m venv "$shelf/venv" > /dev/null 2>&1 &&
   same 'the wheel, a call a line' wanted "$python" examples/python/answer.py
   same 'the wheel, a call a text' wanted "$python" -c 'import riichi_desk, sys; sys.stdout.buffer.write(riichi_desk.lines(sys.stdin.buffer.read()))'
   same 'the wheel, values' wanted "$python" tests/typed_answers.py
+  told 'the wheel, keywords' 'all right' "$("$python" tests/keyword_answers.py "$shelf/lines" 2>&1)"
   told 'the wheel, arrays' 'all right' "$("$python" tests/array_answers.py 2>&1)"
   told 'the wheel, games' 'no difference' "$("$python" tests/game_answers.py 2>&1 | sed 's/.* deals, //')"
   same 'the wheel, a text of games' games-wanted "$python" -c "$by_games"
@@ -95,6 +96,9 @@ if [ -f "$wheel" ] && /usr/bin/python3 -m venv "$shelf/venv" > /dev/null 2>&1 &&
   told 'its licences' "$(unzip -l "$wheel" | grep -c 'licenses/.*LICENSE')" "$(tar -tf "$packages/riichi_desk-$version.crate" | grep -c LICENSE)"
   if has mypy; then
     told 'its types' Success "$(mypy --strict --cache-dir="$shelf/types" packaging/python/src/riichi_desk 2>&1 | sed 's/^Success: .*/Success/')"
+    told "its types in a user's program" Success \
+      "$(mypy --strict --python-executable "$python" --cache-dir="$shelf/user-types" tests/typed_user.py 2>&1 | sed 's/^Success: .*/Success/')"
+    told "a user's program" "7804 ('1m', '2m', '3m', '4m', '5m', '6m', '7m', '8m') {} (31100, 30500, 28700, 29700) $version" "$("$python" tests/typed_user.py 2>&1)"
   else
     skip 'the types of the wheel' mypy
   fi
@@ -106,9 +110,10 @@ fi
 crate=$packages/riichi_desk-$version.crate
 if [ -f "$crate" ] && has cargo; then
   tar -C "$shelf" -xf "$crate"
-  (cd "$shelf/riichi_desk-$version" && cargo build -q --release --offline --example line --target-dir "$shelf/target") > "$room/said" 2>&1
+  (cd "$shelf/riichi_desk-$version" && cargo build -q --release --offline --examples --target-dir "$shelf/target") > "$room/said" 2>&1
   same 'the crate, a call a line' wanted "$shelf/target/release/examples/line"
   same 'the crate, a call a text' wanted "$shelf/target/release/examples/line" text
+  same 'the crate, values' wanted "$shelf/target/release/examples/values"
   same 'the crate, a text of games' games-wanted "$shelf/target/release/examples/line" game
   told 'the words of the crate' 0 "$(cd "$shelf/riichi_desk-$version" && cargo test -q --release --offline --doc --target-dir "$shelf/target" > "$room/said" 2>&1; echo $?)"
 else
@@ -138,10 +143,13 @@ if [ -f "$script" ] && has npm node; then
     import { readFileSync } from "node:fs";
     import { game } from "riichi_desk";
     process.stdout.write(game(readFileSync(0)));'
+  cp tests/array_answers.mjs "$shelf/node"
+  told 'Node: arrays, and the build that require takes' 'all right' "$(cd "$shelf/node" && node array_answers.mjs "$OLDPWD/examples/rules.lines" 2>&1)"
   told 'Node: games' 'all right' "$(cd "$shelf/node" && node game_answers.mjs 2>&1)"
   if has tsc; then
-    cp tests/module_types.ts "$shelf/node"
+    cp tests/module_types.{ts,cts} "$shelf/node"
     told 'the types for JavaScript' '' "$(cd "$shelf/node" && tsc --strict --noEmit --target es2022 --module es2022 --moduleResolution node module_types.ts 2>&1)"
+    told 'the types for require' '' "$(cd "$shelf/node" && tsc --strict --noEmit --target es2022 --module node16 --moduleResolution node16 module_types.cts 2>&1)"
   else
     skip 'the types for JavaScript' node-typescript
   fi

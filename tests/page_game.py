@@ -12,7 +12,7 @@ from pathlib import Path
 
 from browser import Browser
 from page_looks import SIZES, measured, sound
-from page_rows import PAGE, fresh, said_of, set_choice, text, texts, tiles_of, told
+from page_rows import PAGE, fresh, said_of, text, texts, tiles_of, told
 
 PHONE = (360, 640)
 NAMES = ["Anna", "Bo", "Cyd", "Dee"]
@@ -27,13 +27,13 @@ DEALS = [
     ("draw with a nagashi mangan", "draw ready Anna nagashi Bo", "draw ready-0 nagashi-1 count"),
     ("two win on one discard", "ron Bo from Dee 1.30 and Cyd 3.40", "win-1 from-3 han-1 fu-30 also-2 han-3 fu-40 count"),
     ("self-draw of a yakuman, one liable", "tsumo Dee yakuman liable Anna", "win-3 from-tsumo limit-yakuman liable-0 count"),
-    ("abort, four riichi", "abort riichi Anna,Bo,Cyd,Dee", "bet-0 bet-1 bet-2 bet-3 more abort count"),
+    ("abort, four riichi", "abort riichi Anna,Bo,Cyd,Dee", "more four-riichi count"),
     ("dead hand", "chombo Cyd", "more chombo player-2 count"),
     ("penalty", "penalty Bo 8000", "more penalty player-1 points-8000 count"),
     ("the end", "end", "more end count"),
 ]
 # The most taps of a deal.
-MOST = {"ron by han and fu, riichi": 6, "draw, two riichi, four ready": 6, "ron by the tiles, riichi, dora": 14 + 4}
+MOST = {"ron by han and fu, riichi": 6, "draw, two riichi, four ready": 6, "ron by the tiles, riichi, dora": 14 + 4, "abort, four riichi": 3}
 TAPS_OF_DORA = 2
 
 
@@ -269,6 +269,22 @@ def test_game_refusals(browser: Browser) -> None:
     told("a round that isn't there", "This table has no such round.", text(browser, ".count-bar .fault"))
 
 
+def test_game_four_riichi(browser: Browser) -> None:
+    """One tap says that all four declared riichi; on the way back, and taken back, the bets are as they were."""
+    fresh(browser)
+    begin_game(browser)
+    thumb = Thumb(browser)
+    bets = "[...document.querySelectorAll('.seat [aria-pressed]')].map(it => it.ariaPressed).join()"
+    thumb.deal("bet-1 more four-riichi")
+    told("all four declared riichi", ["true"] * 4, browser.run("[...document.querySelectorAll('.bets button')].map(it => it.ariaPressed)"))
+    browser.tap(".way-back")
+    told("the bets on the way back", "false,true,false,false", browser.run(bets))
+    thumb.deal("more four-riichi count")
+    told("the abort", "abort riichi Anna,Bo,Cyd,Dee", game_text(browser).splitlines()[-1])
+    browser.tap(control("undo"))
+    told("the bets where it is taken back", "false,true,false,false", browser.run(bets))
+
+
 def test_game_need(browser: Browser) -> None:
     """What a player needs for a place, in the last round: the row of the page that the command has."""
     fresh(browser)
@@ -309,7 +325,7 @@ def test_game_texts(browser: Browser) -> None:
     told("a text with a refused line isn't opened", "Refused: ron B from C 1.35", text(browser, "#said"))
 
 
-# ---- How it looks, and its words
+# ---- How it looks
 
 SCREENS = {
     "game-setup": "new-game", "game-table": "", "game-pad": "win-1 from-2 han-2 fu-30", "game-pad-empty": "win-1",
@@ -358,6 +374,12 @@ def test_game_narrow(browser: Browser) -> None:
     look_at_game(browser, "320")
 
 
+def test_game_zoomed(browser: Browser, folder: Path) -> None:
+    """At 200 % on a laptop nothing of a game is lost."""
+    browser.zoom(*SIZES[3])
+    look_at_game(browser, "zoomed", folder)
+
+
 def test_game_focus(browser: Browser) -> None:
     """The Tab key goes through each screen in the order of its text, and each stop is seen and marked."""
     for width, height in (PHONE, (1280, 800)):
@@ -385,29 +407,3 @@ def test_game_focus(browser: Browser) -> None:
         browser.run("document.querySelector('[data-key=from-2]').focus()")
         browser.key("Enter")
         told(f"{width}: the focus stays with its control", "from-2", browser.run("document.activeElement.dataset.key"))
-
-
-def test_game_words(browser: Browser, folder: Path) -> None:
-    """No word of the mode is missing in a language, and none of another stands in Japanese."""
-    web = Path(__file__).resolve().parent.parent / "web"
-    keys = {it.name: re.findall(r'^  "(.*?)": "(.*)",$', it.read_text("utf-8"), re.M) for it in sorted(web.glob("words-*.js"))}
-    english = dict(keys["words-en.js"])
-    for name, rows in keys.items():
-        told(f"{name}: its phrases", sorted(english), sorted(dict(rows)))
-        given = {key: sorted(re.findall(r"\{(\w+)\}", words)) for key, words in rows}
-        told(f"{name}: what is put in", {key: sorted(re.findall(r"\{(\w+)\}", words)) for key, words in english.items()}, given)
-    scripts = "".join(it.read_text("utf-8") for it in web.glob("game*.js"))
-    plain = set(re.findall(r'phrase\("([^"]+)"', scripts))
-    told("phrases that aren't there", [], sorted(plain - set(english)))
-    browser.size(*PHONE, touch=True)
-    for name in SCREENS:
-        fresh(browser)
-        set_choice(browser, "names", "script")
-        if name != "game-setup":
-            open_text(browser, EVENING)
-        show_screen(browser, name)
-        browser.picture(folder / f"{name}-script.png")
-        said = browser.run("document.getElementById('game').innerText + ' ' + (document.documentElement.dataset.game === 'tiles' ? document.getElementById('one').innerText : '')")
-        spoken = browser.run("[...document.querySelectorAll('#game [aria-label]')].map(it => it.ariaLabel).join(' ')")
-        words = set(re.findall(r"[A-Za-z]{2,}", f"{said} {spoken}")) - {"Anna", "Bo", "Cyd", "Dee", "the", "first"}
-        told(f"{name}: words of another language", set(), words)

@@ -146,7 +146,7 @@ def test_names(browser: Browser) -> None:
     told("script has its language", "ja", browser.run("document.querySelector('#answer .yaku [lang]').lang"))
     told("and no English has it", [], [it for it in texts(browser, "#answer [lang=ja]") if re.search("[a-z]", it)])
     told("a tile in script", "1萬", browser.run("document.querySelector(\"#picker [data-kind='1m']\").getAttribute('aria-label')"))
-    words = {"romanised": "menzen tsumo 1", "script": "門前清自摸和 1"}
+    words = {"romanised": "Menzen tsumo 1", "script": "門前清自摸和 1"}
     for name, wanted in words.items():
         set_choice(browser, "names", name)
         told(f"an explanation: {name}", True, wanted in browser.run(ANSWER))

@@ -44,8 +44,11 @@ function pale() {
 // Words that don't fit into what they stand in.
 function cut() {
   const controls = "button:not(.on-tile, .meld button), .button, .option span, label, legend";
-  const isCut = (it) => it.scrollWidth > it.clientWidth + 1 || it.scrollHeight > it.clientHeight + 1;
-  return [...document.querySelectorAll(`${controls}, dt, dd, h2, h3, .yaku li, .headline, .raw`)]
+  const isCut = (it) =>
+    it.matches(".change")
+      ? it.offsetWidth > it.parentElement.clientWidth
+      : it.scrollWidth > it.clientWidth + 1 || it.scrollHeight > it.clientHeight + 1;
+  return [...document.querySelectorAll(`${controls}, dt, dd, h2, h3, .yaku li, .headline, .raw, .four .change`)]
     .filter((it) => isShown(it) && !it.matches(".heard") && it.clientWidth > 0 && isCut(it))
     .map((it) => `${named(it)}: ${it.scrollWidth} x ${it.scrollHeight} in ${it.clientWidth} x ${it.clientHeight}`);
 }
@@ -87,13 +90,20 @@ function below() {
   return ["#tray", "#answer .headline", "#why", "#new"].filter((name) => boxOf(name).bottom > innerHeight + 0.5);
 }
 
+// Where the answer of a wide screen isn't beside the hand, or ends above the tiles.
+function notBeside() {
+  const [tray, picker, bar] = ["#tray-box", "#picker", "#bar"].map(boxOf);
+  const rows = [["left", bar.left > tray.right], ["top", Math.abs(bar.top - tray.top) < 4], ["bottom", bar.bottom >= picker.bottom]];
+  return rows.filter(([, isSo]) => !isSo).map(([name]) => name);
+}
+
 // The width of a page that is wider than the screen.
 function tooWide() {
   const { scrollWidth, clientWidth } = document.documentElement;
   return scrollWidth > clientWidth ? [scrollWidth] : [];
 }
 
-// Words of controls that stand in two lines.
+// Words of controls and of the answer's head that stand in two lines.
 function broken() {
   const range = document.createRange();
   const isBroken = (node, { index, 0: word }) => {
@@ -102,7 +112,7 @@ function broken() {
     return new Set([...range.getClientRects()].map((box) => Math.round(box.top))).size > 1;
   };
   const wordsOf = (node) => [...node.data.matchAll(/\p{L}+/gu)].filter((word) => isBroken(node, word)).map(([word]) => word);
-  return [...document.querySelectorAll("button:not(.on-tile), .button, .option span, label, legend")]
+  return [...document.querySelectorAll("button:not(.on-tile), .button, .option span, label, legend, .headline")]
     .filter(isShown)
     .flatMap((it) => [...it.childNodes].filter((node) => node.nodeType === Node.TEXT_NODE).flatMap(wordsOf));
 }

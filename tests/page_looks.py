@@ -10,6 +10,9 @@ from page_rows import ANSWER, PAGE, attribute, choose, fresh, set_choice, told, 
 
 MEASURES = Path(__file__).with_suffix(".js").read_text("utf-8")
 SIZES = ((360, 640), (390, 844), (768, 1024), (1280, 800))
+# Screens that are looked at at 200 %.
+ZOOMED = ((1280, 800), (768, 1024), (1024, 768))
+LANGUAGES = ("english", "romanised", "script", "german", "french", "polish")
 VIEWS = {
     "win": "win 234567m345p6799s on=5s by=tsumo seat=S round=E riichi=1 dora=4p ura=1z counters=1 sticks=1",
     "melds": "win 34p99s open=ankan:1111z,chi:234m,chi:567m on=2p by=tsumo seat=S round=E flags=rinshan dora=1p",
@@ -96,13 +99,36 @@ def test_narrow(browser: Browser) -> None:
         sound(browser, f"{name} at 320", "tooWide", "small", "cut", "broken")
 
 
+def test_zoomed(browser: Browser, folder: Path) -> None:
+    """At 200 % on a laptop, on a tablet and on a small laptop nothing is lost, and nothing moves sideways."""
+    for width, height in ZOOMED:
+        browser.zoom(width, height)
+        fresh(browser)
+        look_at_modes(browser, f"zoomed {width}x{height}", False, folder)
+        type_line(browser, "win 234567m345p6799s round=E")
+        for name in ("#tray", "#picker", "#fields", "#answer", "#why", "#new", "#line"):
+            reach = f"(() => {{ const it = document.querySelector('{name}'); it.scrollIntoView({{block: 'nearest'}}); return it.checkVisibility(); }})()"
+            told(f"zoomed {width}x{height}: {name} can be reached", True, browser.run(reach))
+
+
+def test_wide(browser: Browser) -> None:
+    """On a wide screen the answer stands beside the hand and the tiles, as far down as these, and nothing of it is scrolled to."""
+    for width, height in ((1280, 800), (1440, 900), (1920, 1080), (2560, 1440)):
+        browser.size(width, height)
+        fresh(browser)
+        for name in ("win", "melds", "shape", "waits"):
+            type_line(browser, VIEWS[name])
+            sound(browser, f"{name} at {width}x{height}", "tooWide", "cut", "broken", "notBeside")
+            told(f"{name} at {width}x{height}: it scrolls", False, browser.run("document.documentElement.scrollHeight > innerHeight"))
+
+
 def test_spaced(browser: Browser) -> None:
     """With more space between letters no word is cut, in all names."""
     for width, height in ((320, 568), *SIZES):
         browser.size(width, height, touch=width < 700)
         fresh(browser)
         measured(browser, "space")
-        for names in ("english", "romanised", "script"):
+        for names in LANGUAGES:
             set_choice(browser, "names", names)
             for name in ("win", "melds", "shape", "refused"):
                 type_line(browser, VIEWS[name])
@@ -140,7 +166,7 @@ def test_names_of_controls(browser: Browser) -> None:
 
 def test_focus(browser: Browser) -> None:
     """The Tab key goes through the page in the order of its text, each stop is seen and marked, and it goes back the same way."""
-    for width, height in (SIZES[0], SIZES[3]):
+    for width, height in (SIZES[0], SIZES[3], (640, 400)):
         browser.size(width, height)
         fresh(browser)
         type_line(browser, VIEWS["win"])

@@ -10,7 +10,7 @@ from pathlib import Path
 
 from page_game import begin_game, game_text, play
 from page_kept import READY, served
-from page_looks import VIEWS, sound
+from page_looks import LANGUAGES, VIEWS, sound
 from page_rows import LINE, PAGE, RAW, SITE, TOP, answers_of, fill, texts, told
 from webdriver import BROWSERS, Driver, Screen
 
@@ -74,6 +74,10 @@ def test_narrow(driver: Driver, folder: Path) -> None:
     told(f"{driver.name}: narrow", True, driver.run("innerWidth < 640"))
     sound(driver, f"{driver.name}, narrow", "tooWide", "cut", "broken", "small", "outOfReach")
     driver.picture(folder / f"{driver.name}-narrow.png")
+    for names in LANGUAGES:
+        driver.run(f"document.querySelector('#settings input[name=names][value={names}]').click()")
+        sound(driver, f"{driver.name}, narrow, {names}", "tooWide", "cut", "broken", "small", "outOfReach")
+    driver.run("document.querySelector('#settings input[name=names][value=english]').click()")
 
 
 def test_site(driver: Driver) -> None:

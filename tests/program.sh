@@ -86,11 +86,11 @@ row 2 '' "invalid value '0' for '--workers <N>'" score --workers 0 file
 row 2 '' "invalid value '17' for '--workers <N>'" score --workers 17 file
 row 2 '' "invalid value 'many' for '--workers <N>'" score --workers many file
 row 0 'riichi_desk 0.1.0' '' --version
-for command in '' win waits shape line explain replay score game need help-yaku help-codes help-rules; do
+for command in '' win waits shape line explain replay score game need seats standings help-yaku help-codes help-rules; do
   told "the help of riichi_desk $command says the program's own name" 'Usage: riichi_desk' "$("$program" $command --help | grep -oE '^Usage: [a-z_]+')"
   told "the help of riichi_desk $command has the exit statuses" 5 "$("$program" $command --help | sed -n '/^Exit status:$/,$p' | grep -cE '^  [0-4]  ')"
 done
-told 'the help names the commands' 12 "$("$program" --help | grep -cE '^  (win|waits|shape|line|explain|replay|score|game|need|help-codes|help-rules|help-yaku) ')"
+told 'the help names the commands' 14 "$("$program" --help | grep -cE '^  (win|waits|shape|line|explain|replay|score|game|need|seats|standings|help-codes|help-rules|help-yaku) ')"
 
 for words in --help help-codes; do
   told "$words and a full disk" "riichi_desk: fault F2
@@ -559,7 +559,19 @@ row 0 "1:$begun
 $stands" '' game --number --explain "$room/good.game"
 row 1 "$begun
 refused G5
+  a name stands twice, or a player can't be what it says: a winner is neither the discarder nor liable
+  write: ron Bo from DISCARDER 1.30
 $held" '' game --explain "$room/wrong.game"
+# what beginners type in a game, behind `> `, and what they are shown; each line to try is accepted
+sed -n 's/^> \(.*\)/game Anna Bo Cyd Dee\n\1/p' tests/beginners.games > "$room/mistyped"
+"$program" game --explain < "$room/mistyped" > "$room/shown" 2> "$room/said"
+status=$?
+told 'what beginners are shown in a game' "status 1
+$(grep -v -e '^> ' -e '^# ' -e '^$' tests/beginners.games)" "status $status
+$(grep -v -e '^game ' -e '^stands ' "$room/shown")"
+told 'without hints the answers are the same' "$("$program" game < "$room/mistyped")" "$(grep -v '^  ' "$room/shown")"
+sed -nE 's/^  (try|guess): (.*)/game Anna Bo Cyd Dee\n\2/p' "$room/shown" > "$room/tried"
+told 'what beginners are to try in a game' 0 "$("$program" game - < "$room/tried" | grep -c '^refused')"
 row 0 "$begun
   over: end was said
 over
@@ -594,6 +606,8 @@ row 1 $'table 0\nrefused H2\nrefused H2' "good.game: $note" score "$room/good.ga
 told 'a text of games is said to be one once' 1 "$("$program" line --file "$room/good.game" 2>&1 > /dev/null | grep -c "$note")"
 printf 'games Anna\n' > "$room/input"
 told 'another word is no game' 0 "$("$program" line < "$room/input" 2>&1 > /dev/null | grep -c "$note")"
+# the standings of a tournament
+. tests/standings.sh
 told 'the words of need' 'Usage: riichi_desk need [OPTIONS] <NAME> [PLACE] <FILE>' "$("$program" need --help | grep '^Usage')"
 # what a player needs, and why there is nothing
 row 0 'need Cyd place 2
@@ -607,4 +621,38 @@ row 2 '' "\`Anna,Anna\` are not players of the last game, each once" need Cyd "$
 row 2 '' 'the last game is over' need Cyd "$room/over.game"
 row 2 '' 'a line of the last game is refused, or there is no game' need Cyd "$room/wrong.game"
 row 2 '' 'a line of the last game is refused, or there is no game' need Cyd /dev/null
+# who sits where: what is refused, and games that are read again
+names() { seq -f 'P%03g' "$1"; }
+printf 'Anna\nBo\n# late\nCyd # from afar\n\nDee\r\n' > "$room/input"
+row 0 'game Dee Bo Anna Cyd session=1 at=1 table=league
+# no two meet twice
+# seats Anna 0 0 1 0
+# seats Bo 0 1 0 0
+# seats Cyd 0 0 0 1
+# seats Dee 1 0 0 0' '' seats - 1 --seed 1 --words table=league
+names 6 > "$room/input"
+row 2 '' 'riichi_desk: -: each table has four players, and there are 6 names' seats - 3
 : > "$room/input"
+row 2 '' 'riichi_desk: -: each table has four players, and there are 0 names' seats - 3
+names 404 > "$room/input"
+row 2 '' 'riichi_desk: -: there are more than 400 names' seats - 3
+head -c 3000000 /dev/zero | tr '\0' '\n' > "$room/input"
+row 2 '' 'riichi_desk: -: there are more than 400 names' seats - 3
+printf 'Anna\nBo\nCyd Dee\n' > "$room/input"
+row 2 '' 'riichi_desk: -: line 3 is no name' seats - 3
+printf 'Anna\nBo=\n' > "$room/input"
+row 2 '' 'riichi_desk: -: line 2 is no name' seats - 3
+printf 'Anna\nBo\nAnna\nDee\n' > "$room/input"
+row 2 '' 'riichi_desk: -: the name of line 3 stands on a line before it' seats - 3
+names 8 > "$room/input"
+row 2 '' 'error: --words says no rules of a table: `table=pub`' seats - 2 --words table=pub
+row 2 '' 'error: --words says no rules of a table: `Eve`' seats - 2 --words Eve
+row 2 '' "invalid value '0' for '<SESSIONS>'" seats - 0
+row 2 '' "invalid value '33' for '<SESSIONS>'" seats - 33
+row 2 '' "invalid value 'x' for '--seed <N>'" seats - 2 --seed x
+row 3 '' "riichi_desk: cannot open $room/none" seats "$room/none" 2
+told 'the same games by the same seed' "$("$program" seats - 2 --seed 9 < "$room/input" | sha256sum)" "$("$program" seats - 2 --seed 9 < "$room/input" | sha256sum)"
+told 'other games by another seed' 2 "$(for seed in 1 2; do "$program" seats - 2 --seed $seed < "$room/input" | sha256sum; done | sort -u | wc -l)"
+told 'games of sessions are read as games' '4 stands' "$("$program" seats - 2 < "$room/input" | "$program" game | grep -o '^stands' | sort | uniq -c | xargs)"
+: > "$room/input"
+. tests/sheets.sh

@@ -25,6 +25,7 @@ told 'the version by Python' "$("$program" --version)" "$(by_python -c 'import r
 told 'answers as values by Python' "$(sha256sum < "$made/wanted")" "$(by_python tests/typed_answers.py < "$made/lines" | sha256sum)"
 told 'the words of the Python package' '' "$(by_python tests/module_words.py 2>&1)"
 told 'the edges of the Python package' 'all right' "$(by_python tests/module_edges.py "$made/lines" 2>&1)"
+told 'answers by keywords by Python' 'all right' "$(by_python tests/keyword_answers.py "$made/lines" 2>&1)"
 by_python -c 'import riichi_desk, sys
 for line in sys.stdin.buffer: print(riichi_desk.json(line) or "")' < "$made/lines" | grep . > "$made/json"
 told 'line --json' "$(sha256sum < "$made/json")" "$("$program" line --json < "$made/lines" | sha256sum)"
@@ -69,7 +70,42 @@ if command -v cargo > /dev/null; then
   "$made/bench/release/bench" games 2000 17 > "$made/games.text"
   told 'two thousand random texts of games, by plain Rust' "$("$made/bench/release/bench" ledger < "$made/games.text" | sha256sum)" \
     "$("$program" game < "$made/games.text" | sha256sum)"
+  # random tournaments, by what parts equal totals: of a hundred players and eight sessions, a file each; and of twenty players with
+  # a file for each table, in any order and by any number of workers
+  mkdir -p "$made/tournament" "$made/tables"
+  "$made/bench/release/bench" tournament 100 8 7 "$made/tournament"
+  for ties in none firsts best; do
+    told "a random tournament of 100 players, by plain Rust, ties $ties" "$("$made/bench/release/bench" standings "${ties/none/}" "$made"/tournament/*.game | sha256sum)" \
+      "$("$program" standings --ties "$ties" "$made"/tournament/*.game | sha256sum)"
+  done
+  "$made/bench/release/bench" tournament 20 4 8 "$made/tables"
+  cat "$made"/tables/session-*.game | awk -v folder="$made/tables" '/^game / { n += 1 } { print > (folder "/table-" n ".game") }'
+  told 'a file for each table, by plain Rust' "$("$made/bench/release/bench" standings "" "$made"/tables/session-*.game | sha256sum)" \
+    "$("$program" standings "$made"/tables/table-*.game | sha256sum)"
+  for form in '' --json --csv --sheet; do
+    for workers in 1 2 3 16; do
+      told "the files in another order, by $workers workers, ${form:-in words}" "$("$program" standings $form "$made"/tables/session-*.game | sha256sum)" \
+        "$(ls "$made"/tables/table-*.game | sort -R --random-source=tests/programs.sh | xargs "$program" standings $form --workers "$workers" | sha256sum)"
+    done
+  done
   told 'two thousand random texts of games, by Python' "$("$program" game < "$made/games.text" | sha256sum)" "$(games_by_python < "$made/games.text" | sha256sum)"
+  # the games of sessions: whether each player sits once in each, whom they meet again, where they sit first, and the notes
+  while read -r players sessions counted; do
+    seq -f 'P%03g' "$players" > "$made/players.names"
+    told "seats of $players players and $sessions sessions" "players $players sessions $sessions $counted" \
+      "$(timeout 10 "$program" seats "$made/players.names" "$sessions" | "$made/bench/release/bench" seats)"
+  done << 'SEATS'
+16 5 games 20 pairs 0 uneven 0
+20 5 games 25 pairs 0 uneven 0
+32 8 games 64 pairs 0 uneven 0
+64 7 games 112 pairs 0 uneven 0
+100 8 games 200 pairs 0 uneven 0
+24 5 games 30 pairs 0 uneven 0
+4 3 games 3 pairs 6 uneven 0
+8 2 games 4 pairs 4 uneven 0
+12 2 games 6 pairs 3 uneven 0
+400 32 games 3200 pairs 0 uneven 0
+SEATS
 else
   skip 'docs/GAME.md' cargo
 fi

@@ -1,20 +1,21 @@
 // What the page knows of the answer to a line, and what a hand that isn't whole still lacks.
 
 import { lackOfTiles, missingKeys } from "./asked.js";
-import { isScript, named } from "./names.js";
+import { named } from "./names.js";
 import { lineOf, wordsOf } from "./record.js";
 import { isHouse, profileOf } from "./rules.js";
 import { state } from "./state.js";
-import { phrase } from "./words.js";
+import { isPlainEnglish, phrase, within } from "./words.js";
 
 // A win: the library's answer names the rules.
 const ANY_WIN = "win 234m567m345p67s99s on=5s by=ron seat=S round=E";
 
-// The values of a line's answer, with all that its picture needs; the values are null for a line that is no record.
+// The values of a line's answer, with all that its picture needs; the values are null for a line that is no record. In English the
+// library's own text says why, in another language its values do.
 export function answerTo(line, rules) {
   const { desk } = state;
   const by = wordsOf(line).keys.find(([key]) => key === "by")?.[1];
-  const values = isScript() ? desk.reasons(line, rules) : desk.values(line, rules);
+  const values = isPlainEnglish() ? desk.values(line, rules) : desk.reasons(line, rules);
   return { line, rules, by, text: desk.answer(line, rules), values, reasons: desk.explain(line, rules) };
 }
 
@@ -36,9 +37,9 @@ export function rulesLines(rules) {
 
 const LACKS = {
   on: () => phrase("the winning tile"),
-  by: () => phrase("ron or tsumo", { ron: named("ron").toLowerCase(), tsumo: named("tsumo").toLowerCase() }),
-  seat: () => phrase("the seat").toLowerCase(),
-  round: () => phrase("the round").toLowerCase(),
+  by: () => phrase("ron or tsumo", { ron: within(named("ron")), tsumo: within(named("tsumo")) }),
+  seat: () => within(phrase("the seat")),
+  round: () => within(phrase("the round")),
 };
 
 // What the record that is made still lacks, in words, one for each thing; none where the line was typed otherwise.

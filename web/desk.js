@@ -17,6 +17,7 @@ import { handOfHash } from "./share.js";
 import { handParts, listenToSheet, openSheet } from "./sheet.js";
 import { setEmpty, setRecord, state } from "./state.js";
 import { readChoices, writeChoices } from "./store.js";
+import { choiceOfDevice } from "./words.js";
 
 // Says why the page can't answer, and shows nothing that wouldn't work.
 function refuseToRun(words) {
@@ -127,7 +128,7 @@ function listen() {
 function takeUp() {
   const { line, mode, rules, names, scheme, handId } = readChoices();
   if (areRules(rules)) state.rules = rules;
-  Object.assign(state, { names: names ?? state.names, scheme: scheme ?? state.scheme });
+  Object.assign(state, { names: names ?? choiceOfDevice(), scheme: scheme ?? state.scheme });
   if (typeof line === "string") openHand({ line, rules: state.rules, id: Number(handId) || 0 });
   else setEmpty("win");
   state.past = [];

@@ -2,6 +2,7 @@
 
 import { tileName } from "./names.js";
 import { tilesIn } from "./tiles.js";
+import { language } from "./words.js";
 
 // What is written in Japanese, with a number before it.
 const JAPANESE = /([0-9]*[\p{sc=Han}\p{sc=Hira}\p{sc=Kana}ー・]+(?:[ /]+[\p{sc=Han}\p{sc=Hira}\p{sc=Kana}ー・]+)*)/u;
@@ -28,7 +29,7 @@ export function make(name, properties = {}, ...children) {
 export function label(element, name) {
   element.setAttribute("aria-label", name);
   element.title = name;
-  element.lang = JAPANESE.test(name) ? "ja" : "en";
+  element.lang = JAPANESE.test(name) ? "ja" : language();
   return element;
 }
 

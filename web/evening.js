@@ -95,7 +95,7 @@ export function takeBackLines() {
   const before = evening.past.pop();
   if (before === undefined) return;
   const { lines, was, draft } = before;
-  const riichi = draft.at === null ? draft.riichi : [];
+  const riichi = draft.at === null ? (draft.betsBefore ?? draft.riichi) : [];
   Object.assign(evening, { lines, was, draft: { ...emptyDraft(), riichi } });
 }
 

@@ -13,7 +13,7 @@ import { shownWhole } from "./shown.js";
 import { setBack, setEmpty, setLine, setRecord, state } from "./state.js";
 import { keepHand } from "./store.js";
 import { sorted, tileOf } from "./tiles.js";
-import { listed, phrase } from "./words.js";
+import { listed, phrase, within } from "./words.js";
 
 // Called after each change; `desk.js` keeps the choices by it.
 let changed = () => {};
@@ -240,15 +240,11 @@ export function step({ currentTarget }) {
 
 // The words of the page in the chosen names.
 export function showNames() {
-  for (const it of document.querySelectorAll("[data-name]")) {
-    it.textContent = named(it.dataset.name);
-    it.lang = state.names === "script" ? "ja" : "en";
-  }
-  for (const it of document.querySelectorAll("[data-phrase]")) {
-    it.textContent = phrase(it.dataset.phrase);
-    it.lang = state.names === "script" ? "ja" : "en";
-  }
+  for (const it of document.querySelectorAll("[data-name]")) it.textContent = named(it.dataset.name);
+  for (const it of document.querySelectorAll("[data-phrase]")) it.textContent = phrase(it.dataset.phrase);
   for (const it of document.querySelectorAll("[data-says]")) it.setAttribute("aria-label", phrase(it.dataset.says));
   for (const it of document.querySelectorAll("[data-target], #red")) it.title = it.textContent;
-  label(byId("dealer"), `${named("E")}, ${named("dealer")}`);
+  label(byId("dealer"), `${named("E short")}, ${named("dealer")}`);
+  // What the styles say of a refused field.
+  document.documentElement.style.setProperty("--refused", JSON.stringify(within(phrase("refused"))));
 }

@@ -14,7 +14,7 @@ import { points, signed } from "./numbers.js";
 import { differing } from "./reckoned.js";
 import { lineOf } from "./record.js";
 import { state } from "./state.js";
-import { listed, phrase } from "./words.js";
+import { colon, listed, phrase } from "./words.js";
 
 // On which screen an outcome is entered, where its own name isn't that of the screen.
 const SCREEN_OF = { abort: "plain", end: "plain" };
@@ -42,12 +42,12 @@ export function outcomeText(step, game) {
     const paid = nagashi.length > 0 ? [phrase("text nagashi", { names: names(nagashi) })] : [];
     return [ready.length > 0 ? phrase("text ready", { names: names(ready) }) : phrase("text noten"), ...paid].join(" · ");
   }
-  return player === undefined ? phrase(kind) : `${phrase(kind)}: ${nameOf(player, game)}`;
+  return player === undefined ? phrase(kind) : colon(phrase(kind), nameOf(player, game));
 }
 
 function betText(outcome, game) {
   const bets = outcome === null ? [] : betsOf(outcome);
-  return bets.length === 0 ? [] : [`${named("riichi")}: ${listed(bets.map((who) => nameOf(who, game)))}`];
+  return bets.length === 0 ? [] : [colon(named("riichi"), listed(bets.map((who) => nameOf(who, game))))];
 }
 
 function changesRow(step) {
@@ -64,7 +64,7 @@ function wasRow(step, before, differs) {
 }
 
 function dealItem(game, step, at, before, differs) {
-  const title = `${dealWords(step.before.state)}: ${outcomeText(step, game)}`;
+  const title = colon(dealWords(step.before.state), outcomeText(step, game));
   const fault = step.fault === undefined ? [] : [make("p", { class: "fault" }, faultWords(step))];
   const details = [...betText(step.outcome, game), ...(step.note === "" ? [] : [step.note])];
   return make(

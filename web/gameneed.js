@@ -5,7 +5,7 @@ import { evening, standingGame } from "./evening.js";
 import { FOUR, goTo, group, head, nameOf, quiet, tapped, titled, toggle } from "./gameparts.js";
 import { named } from "./names.js";
 import { points } from "./numbers.js";
-import { listed, phrase } from "./words.js";
+import { colon, listed, phrase } from "./words.js";
 
 const PLACES = [1, 2, 3];
 
@@ -14,8 +14,8 @@ function paidWords(paid, isDealer) {
   if (paid === null) return phrase("need none");
   const { discarder, dealer, other, limit, hands } = paid;
   const each = isDealer || dealer === 0 ? phrase("need all", { points: points(other) }) : `${points(other)} / ${points(dealer)}`;
-  const sizes = hands.map((size) => phrase("han and fu short", size));
-  return `${listed([...(limit === null ? [] : [named(limit)]), ...sizes])}: ${discarder > 0 ? points(discarder) : each}`;
+  const sizes = hands.map((size) => phrase("han and fu", size));
+  return colon(listed([...(limit === null ? [] : [named(limit)]), ...sizes]), discarder > 0 ? points(discarder) : each);
 }
 
 function needRow(title, need, isDealer) {

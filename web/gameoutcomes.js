@@ -85,7 +85,7 @@ export function standsScreen() {
   const { draft } = evening;
   const table = draft.state;
   const set = (changes) => tapped(() => (draft.state = { ...draft.state, ...changes }));
-  const round = ([word, wind]) => toggle(`round-${word}`, named(wind), table.round === word, set({ round: word }));
+  const round = ([word, wind]) => toggle(`round-${word}`, named(`${wind} short`), table.round === word, set({ round: word }));
   const rounds = Object.entries(ROUNDS).map(round);
   const dealers = FOUR.map((who) => toggle(`dealer-${who}`, nameOf(who), table.dealer === who, set({ dealer: who })));
   const take = (changes) => (draft.state = { ...draft.state, ...changes });

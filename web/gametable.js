@@ -25,6 +25,11 @@ function drawDraft() {
   return { ready: evening.draft.riichi };
 }
 
+// All four declared riichi, which is itself why the deal is broken off. On the way back the bets are as they were.
+function fourRiichi() {
+  return key("four-riichi", phrase("four riichi"), begin("abort", "plain", { riichi: [...FOUR], betsBefore: evening.draft.riichi }));
+}
+
 // The change of the last deal, where there was one.
 function lastChange({ steps }, who) {
   const change = steps.at(-1)?.changes?.[who] ?? 0;
@@ -93,6 +98,7 @@ export function moreScreen() {
   });
   const outcomes = [
     key("abort", phrase("abort"), begin("abort", "plain")),
+    fourRiichi(),
     key("chombo", phrase("chombo"), begin("chombo", "chombo")),
     key("penalty", phrase("penalty"), begin("penalty", "penalty")),
     key("stands", phrase("stands"), stands()),
@@ -107,7 +113,7 @@ export function moreScreen() {
   ];
   const named = (words, buttons) => make("div", { class: "list-buttons", role: "group", "aria-label": words }, ...buttons);
   const allowed = game.isOver ? outcomes.filter(({ dataset }) => dataset.key === "penalty") : outcomes;
-  return [head(phrase("more title"), goTo("table")), named(phrase("more outcomes"), allowed), named(phrase("more title"), others)];
+  return [head(phrase("more"), goTo("table")), named(phrase("more outcomes"), allowed), named(phrase("more"), others)];
 }
 
 // What a deal that is put right was after all.
@@ -128,6 +134,6 @@ export function kindsScreen() {
   return [
     head(stateWords(game.state), goTo("deal", String(at))),
     make("ol", { class: "seats" }, ...FOUR.map(win)),
-    actions(...others.map(([kind, screen, more]) => key(kind, phrase(kind), begin(kind, screen, more)))),
+    actions(...others.map(([kind, screen, more]) => key(kind, phrase(kind), begin(kind, screen, more))), fourRiichi()),
   ];
 }

@@ -26,8 +26,8 @@ export function beginWin(who, way) {
 
 // Back from an outcome that isn't counted: the bets stay.
 export function leaveOutcome() {
-  const { at, riichi } = evening.draft;
-  evening.draft = at === null ? { ...emptyDraft(), riichi } : emptyDraft();
+  const { at, riichi, betsBefore = riichi } = evening.draft;
+  evening.draft = at === null ? { ...emptyDraft(), riichi: betsBefore } : emptyDraft();
   evening.screen = at === null ? "table" : "deals";
 }
 

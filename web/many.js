@@ -8,7 +8,7 @@ import { state } from "./state.js";
 import { phrase } from "./words.js";
 
 const MOST_SHOWN = 5000;
-// Of more lines the hands aren't drawn.
+// Of more lines the hands aren't drawn, and the list is a long one.
 const MOST_DRAWN = 100;
 let openLine = () => {};
 
@@ -27,7 +27,7 @@ function answerItem({ number, line, told, rules }, _, { length }) {
     "li",
     told.startsWith("refused") ? { class: "is-refused" } : {},
     make("span", { class: "number" }, String(number)),
-    make("div", {}, make("div", { class: "raw" }, line), ...drawn, make("div", { class: "told" }, told)),
+    make("div", {}, make("div", { class: "raw" }, line), ...drawn, make("div", { class: "told", lang: "en" }, told)),
     make("button", { type: "button", "aria-label": `${phrase("open")}: ${phrase("line number", { number })}`, click: open }, phrase("open")),
   );
 }
@@ -37,6 +37,7 @@ export function showMany() {
   const refused = found.filter(({ told }) => told.startsWith("refused")).length;
   const more = found.length > MOST_SHOWN ? phrase("first shown", { number: MOST_SHOWN }) : "";
   byId("many-count").textContent = found.length === 0 ? phrase("no lines") : phrase("answers", { number: found.length, more, refused });
+  byId("answers").classList.toggle("is-long", found.length > MOST_DRAWN);
   byId("answers").replaceChildren(...found.slice(0, MOST_SHOWN).map(answerItem));
 }
 

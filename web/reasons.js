@@ -1,10 +1,10 @@
-// Why a win is worth what it is, from the values of the library, in a language other than the library's own.
+// Why an answer is what it is: in English by the library's own text, in another language from the library's values.
 
-import { make, tilesDrawn } from "./elements.js";
+import { make, textWithTiles, tilesDrawn } from "./elements.js";
 import { named, yakuName } from "./names.js";
 import { points } from "./numbers.js";
 import { tilesIn } from "./tiles.js";
-import { listed, phrase } from "./words.js";
+import { isPhrase, isPlainEnglish, listed, phrase } from "./words.js";
 
 function drawnTiles(text) {
   return tilesDrawn(tilesIn(text));
@@ -20,9 +20,10 @@ function readingParts({ form, sets = [], pair, completed }) {
 function fuParts(rows, fu) {
   const row = ({ part, kind, fu: earned }) => {
     const tiles = kind === undefined ? [] : [drawnTiles(kind)];
-    return [` ${phrase(`fu ${part}`)} `, ...tiles, phrase("fu", { number: earned })];
+    return [`${phrase(`fu ${part}`)} `, ...tiles, phrase("fu", { number: earned })];
   };
-  return [make("strong", {}, phrase("fu", { number: fu })), ...rows.flatMap(row)];
+  const parted = rows.map(row).flatMap((parts, at) => (at === 0 ? parts : [listed(["", ""]), ...parts]));
+  return [make("strong", {}, phrase("fu", { number: fu })), " ", ...parted];
 }
 
 function hanParts(rows, han, by) {
@@ -49,11 +50,12 @@ function otherParts({ reading, han, fu, gain }) {
   return [...readingParts(reading), ` ${[...size, phrase("headline points", { points: points(gain) })].join(" ")}`];
 }
 
-function wonRows({ fu, han, yakuman, why }, by) {
+function wonRows({ fu, han, base, yakuman, why }, by) {
   return [
     ...(why.fu.length > 0 ? [["row fu", fuParts(why.fu, fu)]] : []),
     [yakuman ? "row yakuman" : "row han", hanParts(why.han, yakuman ? undefined : han, by)],
     ...(why.dora.length > 0 ? [["row dora", doraParts(why.dora)]] : []),
+    ["row base", [points(base)]],
     ["row pays", paymentParts(why.payments)],
     ["row reading", readingParts(why.reading)],
     ...why.others.map((other) => ["row other", otherParts(other)]),
@@ -71,8 +73,50 @@ const ROWS = {
   "no win": noWinRows,
 };
 
-// The rows of an answer with its reasons; null where the library says none as values.
-export function rowsOfReasons(answer, by) {
-  if (answer?.why === undefined) return null;
-  return ROWS[answer.answer](answer, by).flatMap(([word, parts]) => [make("dt", {}, phrase(word)), make("dd", {}, ...parts)]);
+function shownRow(word, parts, about = {}) {
+  return [make("dt", about, ...word), make("dd", about, ...parts)];
+}
+
+// ---- Waits and shapes, whose reasons the library tells as text alone
+
+// A row as the library writes it: its first word, and the others.
+function plainRow(row) {
+  const [, word, text] = /^ *(\S+) *(.*)$/.exec(row) ?? [null, row, ""];
+  return shownRow(textWithTiles(word), textWithTiles(text), { lang: "en" });
+}
+
+// A kind that a hand waits for: how many of it are left, and how they complete the hand.
+function waitRow(row) {
+  const [, kind, number, sorts = ""] = /^ *([1-9][mpsz]) ([0-9]+) left, (.*)$/.exec(row) ?? [];
+  const words = sorts.split(", ").map((sort) => `wait ${sort.replace(/ \(.*\)$/, "")}`);
+  if (kind === undefined || !words.every(isPhrase)) return null;
+  return shownRow([drawnTiles(kind)], [listed([phrase("left of kind", { number }), ...words.map((word) => phrase(word))])]);
+}
+
+// How far a shape is from each form.
+function shantenRow(row) {
+  const [, list] = /^ *shanten (.*)$/.exec(row) ?? [];
+  const forms = (list ?? "").split(", ").map((it) => /^(.*) (-?[0-9]+)$/.exec(it.replace("sets and a pair", "standard")) ?? []);
+  if (!forms.every(([, form]) => isPhrase(`form ${form}`))) return null;
+  return shownRow([phrase("row shanten")], [listed(forms.map(([, form, number]) => `${phrase(`form ${form}`)} ${number}`))]);
+}
+
+function noneLeftRow(row) {
+  return row.trim() === "no tile that is left completes the hand" ? shownRow([phrase("row waits")], [phrase("none left")]) : null;
+}
+
+// Rows of the library's text; those whose words the page knows are said in its language, if that is another.
+function rowsOfText(reasons, first) {
+  const isFirst = (row) => first.some((word) => row.trim().startsWith(`${word} `));
+  const rows = [...reasons.filter(isFirst), ...reasons.filter((row) => !isFirst(row))];
+  const parts = rows.flatMap((it) => (/^ *waits /.test(it) ? it : it.split("; ")));
+  const known = (row) => (isPlainEnglish() ? null : (waitRow(row) ?? shantenRow(row) ?? noneLeftRow(row)));
+  return parts.flatMap((row) => known(row) ?? plainRow(row));
+}
+
+// The rows of an answer: a word, and what it tells. Each kind that a hand waits for has a row; where it is no win, they stand in
+// one. Rows of text whose words stand in `first` come before the others.
+export function rowsOfReasons({ values, reasons, by }, first) {
+  if (values.why === undefined) return rowsOfText(reasons, first);
+  return ROWS[values.answer](values, by).flatMap(([word, parts]) => shownRow([phrase(word)], parts));
 }

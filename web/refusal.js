@@ -2,15 +2,15 @@
 
 import { sizesOf } from "./asked.js";
 import { make } from "./elements.js";
-import { isScript, tileName } from "./names.js";
+import { tileName } from "./names.js";
 import { recordOf, tilesOf } from "./record.js";
 import { countOf, KINDS } from "./tiles.js";
-import { listed, phrase } from "./words.js";
+import { colon, language, listed, phrase, within } from "./words.js";
 
 // What each field is called.
 const FIELDS = {
-  hand: "hand", on: "the winning tile", open: "the melds", by: "ron or self-draw", seat: "the seat", round: "the round", riichi: "riichi",
-  flags: "circumstances", dora: "dora indicators", ura: "ura indicators", counters: "counters of", sticks: "sticks of", seen: "tiles seen",
+  hand: "@hand", on: "the winning tile", open: "the melds", by: "ron or self-draw", seat: "the seat", round: "the round", riichi: "@riichi",
+  flags: "@flags", dora: "dora indicators", ura: "ura indicators", counters: "@counters", sticks: "@sticks", seen: "tiles seen",
 };
 const TRY = /^ *try: /;
 
@@ -54,7 +54,7 @@ function saidOf({ at = 0, length = 0, place, words }, { line, reasons }) {
 function tryButton(row) {
   const line = row.replace(TRY, "");
   const press = ({ target }) => target.dispatchEvent(new CustomEvent("tryline", { bubbles: true, detail: line }));
-  return make("button", { type: "button", class: "try", click: press }, `${phrase("try")}: ${line}`);
+  return make("button", { type: "button", class: "try", click: press }, colon(phrase("try"), line));
 }
 
 export function shownRefusal(answer, about) {
@@ -63,9 +63,9 @@ export function shownRefusal(answer, about) {
   const box = make("div", { class: "refused" }, make("p", { class: "headline" }, cause), ...mark);
   box.append(...about.reasons.filter((row) => TRY.test(row)).map(tryButton));
   // What the library says is in English: in another language it stands where the page has no words of its own.
-  const isSaid = !isScript() || mark.length === 0;
-  if (isSaid) box.append(...saidOf(answer, about).map((row) => make("p", { class: "reason" }, row)));
-  box.append(make("p", {}, phrase("look at", { what: phrase(FIELDS[answer.key] ?? "line").toLowerCase() })));
+  const isSaid = language() === "en" || mark.length === 0;
+  if (isSaid) box.append(...saidOf(answer, about).map((row) => make("p", { class: "reason", lang: "en" }, row)));
+  box.append(make("p", {}, phrase("look at", { what: within(phrase(FIELDS[answer.key] ?? "line")) })));
   if (answer.place !== undefined) box.append(placeShown(answer, about.line));
   return [box];
 }

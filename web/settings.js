@@ -2,11 +2,10 @@
 
 import { byId, make } from "./elements.js";
 import { showForm, showNames } from "./form.js";
-import { isScript, speak } from "./names.js";
-import { hasRule, houseOf, isHouse, RULES, rulesShort, withRule } from "./rules.js";
+import { hasRule, houseOf, isHouse, ruleName, RULES, rulesShort, withRule } from "./rules.js";
 import { state } from "./state.js";
 import { isKept } from "./store.js";
-import { phrase } from "./words.js";
+import { phrase, speak } from "./words.js";
 
 const isDark = matchMedia("(prefers-color-scheme: dark)");
 
@@ -32,10 +31,7 @@ export function showSettings() {
   for (const [name, value] of Object.entries(chosen)) {
     for (const input of document.querySelectorAll(`#settings input[name=${name}]`)) input.checked = input.value === value;
   }
-  for (const it of document.querySelectorAll("#house span")) {
-    it.textContent = isScript() ? it.dataset.inJapanese : it.dataset.inEnglish;
-    it.lang = isScript() ? "ja" : "en";
-  }
+  for (const box of document.querySelectorAll("#house input")) box.nextElementSibling.textContent = ruleName(box.dataset.rule);
   byId("house").hidden = !isHouse(rules);
   for (const input of document.querySelectorAll("#house input")) input.checked = hasRule(rules, Number(input.value));
   byId("rules-now").textContent = rulesShort(rules);
@@ -43,9 +39,9 @@ export function showSettings() {
 
 // A box for each rule that a house may choose.
 function ruleBoxes() {
-  return RULES.map(([word, ...says], place) => {
+  return RULES.map((word, place) => {
     const box = make("input", { type: "checkbox", name: "rule", value: String(place), "data-rule": word });
-    return make("label", { class: "rule" }, box, make("span", { "data-in-english": says[0], "data-in-japanese": says[1] }));
+    return make("label", { class: "rule" }, box, make("span"));
   });
 }
 

@@ -19,7 +19,7 @@ function part(word, ...children) {
 function handShown(line) {
   const record = recordOf(line);
   if (record === null) return make("p", { class: "raw" }, line);
-  const list = make("dl", { class: "why", "aria-label": phrase("hand") }, ...part(named("hand"), tilesDrawn(record.hand)));
+  const list = make("dl", { class: "why", "aria-label": named("hand") }, ...part(named("hand"), tilesDrawn(record.hand)));
   for (const { word, tiles } of record.melds) list.append(...part(named(word), tilesDrawn(tiles)));
   for (const key of ["on", "dora", "ura", "seen"].filter((it) => record[it].length > 0)) {
     list.append(...part(named(key), tilesDrawn(record[key])));

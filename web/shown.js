@@ -1,12 +1,12 @@
 // The answer to one line, as it is shown.
 
-import { make, textWithTiles, tileImage } from "./elements.js";
-import { named, shantenWords, spoken, yakuName } from "./names.js";
+import { make, tileImage } from "./elements.js";
+import { named, shantenWords, yakuName } from "./names.js";
 import { points, signed } from "./numbers.js";
 import { wordsOf } from "./record.js";
 import { rowsOfReasons } from "./reasons.js";
 import { shownRefusal } from "./refusal.js";
-import { phrase } from "./words.js";
+import { colon, phrase } from "./words.js";
 
 function payWords({ discarder, dealer, each_other: other, each }) {
   if (discarder !== undefined) return phrase("from the discarder", { points: points(discarder) });
@@ -17,8 +17,8 @@ function payWords({ discarder, dealer, each_other: other, each }) {
 // The number of han and fu, and the limit that they reach.
 function sizeWords({ yakuman, han, fu, limit }) {
   if (yakuman) return named("yakuman");
-  const size = phrase("han, fu", { han, fu });
-  return limit ? `${named(limit === "yakuman" ? "kazoe" : limit)}: ${size}` : size;
+  const size = phrase("han and fu", { han, fu });
+  return limit ? colon(named(limit === "yakuman" ? "kazoe" : limit), size) : size;
 }
 
 // Who pays a self-draw, seat by seat as the four sit, the winner at the lower edge: next in turn to the right, then across, then to
@@ -74,24 +74,6 @@ function shownShape({ shanten, discards, accepts, live }) {
   return [head, make("p", {}, phrase("discard")), list];
 }
 
-// Rows of an explanation: a word, and what it tells. Each kind that a hand waits for has a row; where it is no win, they stand in one.
-// The rows whose words stand in `first` come before the others.
-function shownReasons({ reasons, by, values }, first) {
-  const list = make("dl", { class: "why", "aria-label": phrase("reasons") });
-  const known = rowsOfReasons(values, by);
-  if (known !== null) {
-    list.append(...known);
-    return [list];
-  }
-  const isFirst = (row) => first.some((word) => row.trim().startsWith(`${word} `));
-  const rows = [...reasons.filter(isFirst), ...reasons.filter((row) => !isFirst(row))];
-  for (const row of rows.flatMap((it) => (/^ *waits /.test(it) ? it : it.split("; ")))) {
-    const [, word, text] = /^ *(\S+) *(.*)$/.exec(row) ?? [null, row, ""];
-    list.append(make("dt", {}, ...textWithTiles(word)), make("dd", {}, ...textWithTiles(spoken(text, by))));
-  }
-  return [list];
-}
-
 const SHOWN = {
   won: shownWin,
   waits: shownWaits,
@@ -110,5 +92,6 @@ export function shownAnswer(answer, about) {
 // The same with its reasons, and the answer as a text.
 export function shownWhole(answer, about, first = []) {
   const hasRows = about.reasons.length > 0 && answer.answer !== "refused";
-  return [...shownAnswer(answer, about), ...(hasRows ? shownReasons(about, first) : []), make("p", { class: "raw" }, about.text)];
+  const reasons = hasRows ? [make("dl", { class: "why", "aria-label": phrase("reasons") }, ...rowsOfReasons(about, first))] : [];
+  return [...shownAnswer(answer, about), ...reasons, make("p", { class: "raw", lang: "en" }, about.text)];
 }

@@ -5,7 +5,10 @@
 //! shapes and shanten alone (`time_shapes` makes it);
 //! `bench pool PROGRAM [LINES]` times `score` beside `line`;
 //! `bench ledger < FILE` answers a text of games, `bench need NAME [PLACE [NAMES]] < FILE` says what a player needs, and
-//! `bench games [COUNT [SEED [FOLDER]]]` writes random texts of games.
+//! `bench games [COUNT [SEED [FOLDER]]]` writes random texts of games;
+//! `bench seats < FILE` checks the games of a tournament's sessions, as `seats` writes them, and what their notes claim;
+//! `bench standings [firsts|best] FILE..` prints the standings of a tournament, and
+//! `bench tournament PLAYERS SESSIONS SEED FOLDER` writes the games of a random one.
 mod answer;
 mod best;
 mod clock;
@@ -19,6 +22,7 @@ mod pen;
 mod pool;
 mod rows;
 mod score;
+mod seats;
 mod shape;
 mod shapes;
 mod suit;
@@ -53,11 +57,17 @@ fn main() -> std::io::Result<()> {
             let number = |at: usize, or| words.get(at).and_then(|word| word.parse().ok()).unwrap_or(or);
             ledger::write_texts(number(2, 1000), number(3, 1) as u64, words.get(4).map(String::as_str))
         }
+        Some("standings") => ledger::answer_standings(&words[2..]),
+        Some("tournament") => {
+            let number = |at: usize| words.get(at).and_then(|word| word.parse().ok()).unwrap_or(4);
+            ledger::write_tournament(number(2), number(3), number(4) as u64, words.get(5).map_or(".", String::as_str))
+        }
         Some("ledger") => ledger::answer(words.get(2).map(String::as_str) == Some("--coverage")),
         Some("need") => {
             let place = words.get(3).and_then(|word| word.parse().ok()).unwrap_or(1);
             ledger::answer_need(&words[2], place, words.get(4).map_or("", String::as_str))
         }
+        Some("seats") => seats::check(),
         Some("lines") => std::io::stdout().write_all(&input::lines(&words[2], words[3].parse().unwrap_or(1000))),
         Some(program) => {
             let count = words.get(2).and_then(|word| word.parse().ok()).unwrap_or(100_000);
@@ -67,7 +77,7 @@ fn main() -> std::io::Result<()> {
             Ok(())
         }
         None => {
-            eprintln!("usage: bench PROGRAM [LINES] | bench best TIMED | bench shapes TIMED [HANDS] | bench pool PROGRAM [LINES] | bench answer [RULES] < FILE | bench games [COUNT [SEED [FOLDER]]] | bench ledger [--coverage] < FILE | bench need NAME [PLACE [NAMES]] < FILE | bench lines win|waits|shape13|shape14|mixed COUNT");
+            eprintln!("usage: bench PROGRAM [LINES] | bench best TIMED | bench shapes TIMED [HANDS] | bench pool PROGRAM [LINES] | bench answer [RULES] < FILE | bench games [COUNT [SEED [FOLDER]]] | bench ledger [--coverage] < FILE | bench standings [firsts|best] FILE.. | bench tournament PLAYERS SESSIONS SEED FOLDER | bench need NAME [PLACE [NAMES]] < FILE | bench seats < FILE | bench lines win|waits|shape13|shape14|mixed COUNT");
             std::process::exit(2)
         }
     }

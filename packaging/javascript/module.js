@@ -1,26 +1,11 @@
-// The module of WebAssembly, its memory, and whether a number is that of rules. The modules lie beside this file.
+// The module's calls, its memory, and whether a number is that of rules.
+
+import { instance } from "./load.js";
 
 const PAGE = 65536;
 export const MOST_TEXT = PAGE;
 export const MOST_ANSWER = 4 * PAGE - 8;
 
-// A module with nothing but an instruction on vectors. An engine that has none takes the module without them, which is slower.
-const OF_VECTORS = [0, 97, 115, 109, 1, 0, 0, 0, 1, 5, 1, 96, 0, 1, 123, 3, 2, 1, 0, 10, 10, 1, 8, 0, 65, 0, 253, 15, 253, 98, 11];
-const MODULE = WebAssembly.validate(new Uint8Array(OF_VECTORS))
-  ? new URL("./riichi_desk.wasm", import.meta.url)
-  : new URL("./riichi_desk_plain.wasm", import.meta.url);
-
-async function bytesOfModule() {
-  if (MODULE.protocol === "file:" && typeof process === "object") {
-    const { readFile } = await import("node:fs/promises");
-    return readFile(MODULE);
-  }
-  const told = await fetch(MODULE);
-  if (!told.ok) throw new Error(`${MODULE}: ${told.status}`);
-  return told.arrayBuffer();
-}
-
-const { instance } = await WebAssembly.instantiate(await bytesOfModule(), {});
 export const calls = instance.exports;
 // What a call is given lies here, and what it tells there.
 export const LINE = calls.memory.grow(5) * PAGE;
@@ -30,13 +15,19 @@ export let memory = new Uint8Array(calls.memory.buffer);
 export let view = new DataView(calls.memory.buffer);
 let wide = { at: LINE, most: MOST_TEXT };
 
+// A place of so many bytes, by which the memory grows.
+export function placeOf(length) {
+  const at = calls.memory.grow(Math.ceil(length / PAGE)) * PAGE;
+  memory = new Uint8Array(calls.memory.buffer);
+  view = new DataView(calls.memory.buffer);
+  return at;
+}
+
 // Where a text of any length lies, for a call that is given the whole of it.
 export function lend(bytes) {
   if (bytes.length > wide.most) {
-    const pages = Math.ceil(bytes.length / PAGE);
-    wide = { at: calls.memory.grow(pages) * PAGE, most: pages * PAGE };
-    memory = new Uint8Array(calls.memory.buffer);
-    view = new DataView(calls.memory.buffer);
+    const most = Math.max(bytes.length, 2 * wide.most);
+    wide = { at: placeOf(most), most };
   }
   memory.set(bytes, wide.at);
   return wide.at;

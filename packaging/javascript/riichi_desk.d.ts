@@ -22,6 +22,8 @@ export function house(changes?: Partial<Record<Rule, boolean>>): HouseRules;
 export function rulesOf(text: string): Rules | undefined;
 /** A line as a text, or its bytes. A line feed at its end is no part of it, nor a carriage return before that. */
 export type Line = string | Uint8Array;
+/** Lines, one an item; not one text, which is a `TypeError`, as is an item that is no line. */
+export type Lines = Iterable<Line> & { readonly charAt?: never };
 /** A kind of tile, as its digit and its letter: "5m", "7z". */
 export type Kind = `${1 | 2 | 3 | 4 | 5 | 6 | 7 | 8 | 9}${"m" | "p" | "s"}` | `${1 | 2 | 3 | 4 | 5 | 6 | 7}z`;
 export interface Yaku { number: number; word: string; japanese: string }
@@ -61,11 +63,11 @@ export type Answer =
 /** The answer to one line, such as `waits 1112345678999m`; null where it is a comment or blank. */
 export function answer(line: Line, rules?: Rules): Answer | null;
 /** The answer to each of many lines. */
-export function answers(lines: Iterable<Line>, rules?: Rules): (Answer | null)[];
+export function answers(lines: Lines, rules?: Rules): (Answer | null)[];
 /** The answer in the words of the command `line`. */
 export function text(line: Line, rules?: Rules): string | null;
 /** The same of many lines. */
-export function texts(lines: Iterable<Line>, rules?: Rules): (string | null)[];
+export function texts(lines: Lines, rules?: Rules): (string | null)[];
 /** The answer as one line of JSON. */
 export function json(line: Line, rules?: Rules): string | null;
 export type Reading =
@@ -101,4 +103,5 @@ export function explainLines(text: Line, rules?: Rules): string;
 export function game(text: Line, rules?: Rules): string;
 /** The name and version of the library. */
 export function version(): string;
+export * from "./arrays.js";
 export * from "./game.js";

@@ -3,6 +3,7 @@
 import { calls, lend, LINE, memory, MOST_ANSWER, MOST_TEXT, ROOM, tested, view } from "./module.js";
 
 export { Game, HandRefused, OutcomeRefused, RulesRefused, table } from "./game.js";
+export { ankan, chi, discards, kan, NO_HAND, NO_WAITS, NO_WIN, NO_YAKU, pon, shanten, shapes, waits, winRow, wins, WON } from "./arrays.js";
 
 const MOST_LINE = 4200; // a line of more than 4096 bytes is refused whatever follows
 const TAKEN = ROOM + MOST_ANSWER;
@@ -16,11 +17,21 @@ function read(needed) {
   return decoder.decode(memory.subarray(ROOM, ROOM + Number(needed)));
 }
 
+const isBytes = (given) => Object.prototype.toString.call(given) === "[object Uint8Array]";
+
+// A line or a text as it is given; what is neither is told, with what comes before the words where it is one of many.
+function given(line, before = "") {
+  if (typeof line === "string" || isBytes(line)) return line;
+  throw new TypeError(`${before}a line is a string or a Uint8Array, and not ${line === null ? "null" : typeof line}`);
+}
+
+const bytesOf = (text) => (typeof given(text) === "string" ? encoder.encode(text) : text);
+
 const lineRoom = () => memory.subarray(LINE, LINE + MOST_LINE);
 
 // How many bytes of a line lie in its room: a text or bytes, without a line feed at its end and a carriage return before that.
 function put(line) {
-  if (typeof line === "string") return encoder.encodeInto(line.replace(/\r?\n?$/, ""), lineRoom()).written;
+  if (typeof given(line) === "string") return encoder.encodeInto(line.replace(/\r?\n?$/, ""), lineRoom()).written;
   let end = line.length;
   if (line[end - 1] === 10) end--;
   if (line[end - 1] === 13) end--;
@@ -65,8 +76,17 @@ export function text(line, rules = 1) {
   return ask(calls.riichi_answer, line, rules);
 }
 
+// What `call` answers to each of many lines. One text would be taken for many, one for each of its letters.
+function each(call, lines, rules) {
+  tested(rules);
+  if (typeof lines === "string" || isBytes(lines) || typeof lines?.[Symbol.iterator] !== "function") {
+    throw new TypeError('many lines are wanted, as an array: of one text pass text.split("\\n"), or pass it to answerLines');
+  }
+  return Array.from(lines, (line, place) => call(given(line, `item ${place}: `), rules));
+}
+
 export function texts(lines, rules = 1) {
-  return Array.from(lines, (line) => text(line, rules));
+  return each(text, lines, rules);
 }
 
 export function json(line, rules = 1) {
@@ -78,7 +98,7 @@ export function answer(line, rules = 1) {
 }
 
 export function answers(lines, rules = 1) {
-  return Array.from(lines, (line) => answer(line, rules));
+  return each(answer, lines, rules);
 }
 
 export function why(line, rules = 1) {
@@ -97,7 +117,7 @@ function frontOf(text) {
 
 function askLines(call, text, rules) {
   tested(rules);
-  let rest = typeof text === "string" ? encoder.encode(text) : text;
+  let rest = bytesOf(text);
   const pieces = [];
   while (rest.length > 0) {
     const front = frontOf(rest);
@@ -124,8 +144,8 @@ export function explainLines(text, rules = 1) {
 
 export function game(text, rules = 1) {
   tested(rules);
-  const given = typeof text === "string" ? encoder.encode(text) : text;
-  const [at, length] = [lend(given), given.length].map(BigInt);
+  const bytes = bytesOf(text);
+  const [at, length] = [lend(bytes), bytes.length].map(BigInt);
   const pieces = [];
   for (let from = 0n; from <= length; from = view.getBigUint64(TAKEN, true)) {
     pieces.push(read(calls.riichi_game_lines(rules, at, length, from, AT[1], AT[2], BigInt(TAKEN))));

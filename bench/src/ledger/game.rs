@@ -236,7 +236,7 @@ fn write_step(out: &mut String, game: &Game, before: &State, step: &Step) {
 }
 
 /// Points as thousands with one decimal, and a sign but for nothing.
-fn thousands(points: i64) -> String {
+pub fn thousands(points: i64) -> String {
     let sign = match points.signum() {
         1 => "+",
         -1 => "-",

@@ -8,9 +8,10 @@ pub mod random;
 pub mod rules;
 mod run;
 mod settle;
+pub mod standings;
 pub mod state;
 #[cfg(test)]
 mod tests;
 pub mod words;
 
-pub use run::{answer, answer_need, write_texts};
+pub use run::{answer, answer_need, answer_standings, write_texts, write_tournament};

@@ -2,7 +2,8 @@
 use super::coverage::Tally;
 use super::game::answers;
 use super::need::needs;
-use super::random::text;
+use super::random::{text, tournament};
+use super::standings::{Hall, Parts};
 use crate::input::Dice;
 use std::io::{Read, Result, Write};
 use std::path::Path;
@@ -48,6 +49,30 @@ pub fn write_texts(count: usize, seed: u64, folder: Option<&str>) -> Result<()> 
                 std::io::stdout().write_all(&text)?;
             }
         }
+    }
+    Ok(())
+}
+
+/// Prints the standings of a tournament by the games of files; before them `firsts` or `best` may say what parts equal totals.
+pub fn answer_standings(words: &[String]) -> Result<()> {
+    let (parts, files) = match words.first().map(String::as_str) {
+        Some("firsts") => (Parts::Firsts, &words[1..]),
+        Some("best") => (Parts::Best, &words[1..]),
+        Some("") => (Parts::Nothing, &words[1..]),
+        _ => (Parts::Nothing, words),
+    };
+    let mut hall = Hall::default();
+    for file in files {
+        hall.take(&std::fs::read(file)?);
+    }
+    std::io::stdout().write_all(hall.text(parts).as_bytes())
+}
+
+/// Writes a random tournament into a folder: a file for each session.
+pub fn write_tournament(players: usize, sessions: usize, seed: u64, folder: &str) -> Result<()> {
+    let mut dice = Dice::new(seed.wrapping_mul(0x9e37_79b9_7f4a_7c15) | 1);
+    for (at, text) in tournament(&mut dice, players, sessions).iter().enumerate() {
+        std::fs::write(Path::new(folder).join(format!("session-{}.game", at + 1)), text)?;
     }
     Ok(())
 }

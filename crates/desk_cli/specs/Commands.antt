@@ -8,7 +8,7 @@ use Rattle.desk_cli.specs.declared.command.CommandName.TheVariants as commands
 abbrev pub every_command : List CommandName
 every_command =
     commands.Win ∷ commands.Waits ∷ commands.Shape ∷ commands.Line ∷ commands.Explain ∷ commands.Replay ∷ commands.Score
-    ∷ commands.Game ∷ commands.Need ∷ commands.HelpCodes ∷ commands.HelpRules ∷ commands.HelpYaku ∷ []
+    ∷ commands.Game ∷ commands.Need ∷ commands.Seats ∷ commands.Standings ∷ commands.HelpCodes ∷ commands.HelpRules ∷ commands.HelpYaku ∷ []
 
 abbrev pub command_word : CommandName → List ℕ
 command_word commands.Win = codes "win"
@@ -20,6 +20,8 @@ command_word commands.Replay = codes "replay"
 command_word commands.Score = codes "score"
 command_word commands.Game = codes "game"
 command_word commands.Need = codes "need"
+command_word commands.Seats = codes "seats"
+command_word commands.Standings = codes "standings"
 command_word commands.HelpCodes = codes "help-codes"
 command_word commands.HelpRules = codes "help-rules"
 command_word commands.HelpYaku = codes "help-yaku"

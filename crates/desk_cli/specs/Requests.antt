@@ -23,6 +23,12 @@ use Rattle.desk_cli.specs.declared.request.Lines.TheVariants as sources
 use Rattle.desk_cli.specs.declared.request.Manner.{Manner}
 use Rattle.desk_cli.specs.declared.request.NeedRequest.{NeedRequest}
 use Rattle.desk_cli.specs.declared.request.Request.{Request}
+use Rattle.desk_cli.specs.declared.request.SeatsRequest.{SeatsRequest}
+use Rattle.desk_cli.specs.declared.request.StandingsForm.{StandingsForm}
+use Rattle.desk_cli.specs.declared.request.StandingsForm.TheVariants as standings_forms
+use Rattle.desk_cli.specs.declared.request.StandingsRequest.{StandingsRequest}
+use Rattle.desk_cli.specs.declared.request.TieWord.{TieWord}
+use Rattle.desk_cli.specs.declared.request.TieWord.TheVariants as tie_words
 use Rattle.desk_cli.specs.declared.request.Request.TheVariants as requests
 
 -- ---- what stands under the name of an argument
@@ -162,13 +168,15 @@ AsksForScore found (Some (requests.Score files workers rules is_numbered is_quie
 AsksForScore found (Some (requests.UnknownRules word)) = IsUnknown found word.now
 AsksForScore found (Some other) = ⊥
 
--- `game` answers in words, and with --explain says below each answer what is paid and why; with --json as objects
+-- `game` answers in words, and with --explain says below each answer what is paid and why; with --json as objects, with --sheet in columns
 pub record IsGameForm (found : Found) (form : GameForm) : Type 0 where
+  pub sheet : Bool
   pub json : Bool
   pub explain : Bool
+  pub sheet_given : IsFlag found (codes "sheet") sheet
   pub json_given : IsFlag found (codes "json") json
   pub explain_given : IsFlag found (codes "explain") explain
-  pub form_is : form ≡ (if json then game_forms.Objects else if explain then game_forms.Explained else game_forms.Answers)
+  pub form_is : form ≡ (if sheet then game_forms.Sheet else if json then game_forms.Objects else if explain then game_forms.Explained else game_forms.Answers)
 
 -- texts of games: those of files, or of standard input where none is named
 abbrev pub AsksForGames : Found → Request → Type 0
@@ -223,6 +231,66 @@ AsksForNeed found (Some (requests.UnknownPlace word)) = IsNoPlace found word.now
 AsksForNeed found (Some (requests.UnknownRules word)) = IsUnknown found word.now
 AsksForNeed found (Some other) = ⊥
 
+-- ---- what parts equal totals
+
+abbrev pub ties_said : List ℕ → Option TieWord
+ties_said word =
+    if bytes_eq word (codes "none") then Some tie_words.Shared
+    else if bytes_eq word (codes "firsts") then Some tie_words.Firsts
+    else if bytes_eq word (codes "best") then Some tie_words.Best
+    else None
+
+-- the word that says what parts equal totals; nothing does without it
+abbrev pub ties_option : Found → List ℕ
+ties_option found = unwrap_or (first_value found (codes "ties")) (codes "none")
+
+-- ---- who sits where
+
+-- The games of so many sessions of the players of a file, by a seed, with words behind each; or by the standings of games so far.
+pub record IsSeatsAsked (found : Found) (seats : SeatsRequest) : Type 0 where
+  pub file : first_value found (codes "FILE") ≡ Some seats.file.now
+  pub sessions : IsNumber found (codes "SESSIONS") (Some seats.sessions)
+  pub seed : IsNumber found (codes "seed") (Some seats.seed)
+  pub words : option_map (λ words. words.now) seats.words ≡ first_value found (codes "words")
+  pub quiet : IsFlag found (codes "quiet") seats.is_quiet
+  pub so_far : option_map (λ files. texts files.now) seats.so_far ≡ words_under found (codes "standings")
+  pub ties : ties_said (ties_option found) ≡ Some seats.ties
+  pub rules : NamesRules (rules_option found) seats.rules
+
+abbrev pub AsksForSeats : Found → Option Request → Type 0
+AsksForSeats found None =
+    (first_value found (codes "FILE") ≡ None) ⊎ IsNumber found (codes "SESSIONS") None ⊎ IsNumber found (codes "seed") None
+    ⊎ (ties_said (ties_option found) ≡ None)
+AsksForSeats found (Some (requests.Seats seats)) = IsSeatsAsked found seats
+AsksForSeats found (Some (requests.UnknownRules word)) = IsUnknown found word.now
+AsksForSeats found (Some other) = ⊥
+
+-- ---- the standings of a tournament
+
+-- `standings` answers in words, with --json as objects, with --csv as a table, and with --sheet in columns
+pub record IsStandingsForm (found : Found) (form : StandingsForm) : Type 0 where
+  pub json : Bool
+  pub csv : Bool
+  pub sheet : Bool
+  pub json_given : IsFlag found (codes "json") json
+  pub csv_given : IsFlag found (codes "csv") csv
+  pub sheet_given : IsFlag found (codes "sheet") sheet
+  pub form_is : form ≡ (if json then standings_forms.Json else if csv then standings_forms.Csv else if sheet then standings_forms.Sheet else standings_forms.Words)
+
+-- Files of games, by so many workers, what parts equal totals, a form, and the rules for hands.
+pub record IsStandingsAsked (found : Found) (asked : StandingsRequest) : Type 0 where
+  pub files : words_under found (codes "FILE") ≡ Some (texts asked.files.now)
+  pub workers : IsNumber found (codes "workers") (Some asked.workers)
+  pub ties : ties_said (ties_option found) ≡ Some asked.ties
+  pub form : IsStandingsForm found asked.form
+  pub rules : NamesRules (rules_option found) asked.rules
+
+abbrev pub AsksForStandings : Found → Option Request → Type 0
+AsksForStandings found None = (words_under found (codes "FILE") ≡ None) ⊎ IsNumber found (codes "workers") None ⊎ (ties_said (ties_option found) ≡ None)
+AsksForStandings found (Some (requests.Standings asked)) = IsStandingsAsked found asked
+AsksForStandings found (Some (requests.UnknownRules word)) = IsUnknown found word.now
+AsksForStandings found (Some other) = ⊥
+
 abbrev pub IsSome : (Request → Type 0) → Option Request → Type 0
 IsSome Is None = ⊥
 IsSome Is (Some request) = Is request
@@ -235,6 +303,8 @@ IsAsked commands.Replay found asked = AsksForReplay found asked
 IsAsked commands.Score found asked = AsksForScore found asked
 IsAsked commands.Game found asked = IsSome (AsksForGames found) asked
 IsAsked commands.Need found asked = AsksForNeed found asked
+IsAsked commands.Seats found asked = AsksForSeats found asked
+IsAsked commands.Standings found asked = AsksForStandings found asked
 IsAsked commands.HelpCodes found asked = asked ≡ Some requests.HelpCodes
 IsAsked commands.HelpRules found asked = asked ≡ Some requests.HelpRules
 IsAsked commands.HelpYaku found asked = asked ≡ Some requests.HelpYaku

@@ -14,13 +14,15 @@ pub enum CommandName {
     Score,
     Game,
     Need,
+    Seats,
+    Standings,
     HelpCodes,
     HelpRules,
     HelpYaku,
 }
 
 impl CommandName {
-    const ALL: [CommandName; 12] = [
+    pub(crate) const ALL: [CommandName; 14] = [
         CommandName::Win,
         CommandName::Waits,
         CommandName::Shape,
@@ -30,6 +32,8 @@ impl CommandName {
         CommandName::Score,
         CommandName::Game,
         CommandName::Need,
+        CommandName::Seats,
+        CommandName::Standings,
         CommandName::HelpCodes,
         CommandName::HelpRules,
         CommandName::HelpYaku,
@@ -52,6 +56,8 @@ impl CommandName {
             CommandName::Score => "score",
             CommandName::Game => "game",
             CommandName::Need => "need",
+            CommandName::Seats => "seats",
+            CommandName::Standings => "standings",
             CommandName::HelpCodes => "help-codes",
             CommandName::HelpRules => "help-rules",
             CommandName::HelpYaku => "help-yaku",

@@ -122,6 +122,7 @@ Example:
   riichi_desk game --rules 1+red-fives < evening.game
   riichi_desk game --explain evening.game
   riichi_desk game --json evening.game
+  riichi_desk game --sheet evening.game
 
 A game is typed as it is played, a line for each deal:
   game Anna Bo Cyd Dee
@@ -134,11 +135,41 @@ Exit status:
 "
 );
 
+pub(crate) const STANDINGS_HELP: &str = with_statuses!(
+    "\
+Example:
+  riichi_desk standings first-evening.game second-evening.game
+  riichi_desk standings --ties firsts --csv tables/*.game > standings.csv
+  riichi_desk standings --sheet tables/*.game
+
+A file has the games of one table or of several, each until it is over:
+  game Anna Bo Cyd Dee session=1 at=3
+  ..
+  end
+
+Exit status:
+"
+);
+
 pub(crate) const NEED_HELP: &str = with_statuses!(
     "\
 Example:
   riichi_desk need Cyd evening.game
   riichi_desk need Cyd 2 evening.game --riichi Anna,Bo
+
+Exit status:
+"
+);
+
+pub(crate) const SEATS_HELP: &str = with_statuses!(
+    "\
+Example:
+  riichi_desk seats players.names 5
+  riichi_desk seats players.names 8 --seed 7 --words \"table=league\"
+  riichi_desk seats players.names 1 --standings first-evening.game second-evening.game
+
+Behind the games stand notes: which pairs meet more than once, and how often each player sits first at
+each of the seats East, South, West and North.
 
 Exit status:
 "

@@ -17,6 +17,9 @@ mod words;
 
 pub use command::CommandName;
 pub use help::EXIT_STATUSES;
-pub use request::{Form, GameForm, GameManner, Lines, Manner, NeedRequest, Request, request_of};
+pub use request::{
+    Form, GameForm, GameManner, Lines, Manner, NeedRequest, Request, SeatsRequest, StandingsForm,
+    StandingsRequest, TieWord, request_of,
+};
 pub use rules::nearest_rule;
 pub use words::commands;

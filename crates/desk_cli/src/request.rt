@@ -39,6 +39,10 @@ pub enum Request<'m, 'a> {
     },
     /// What a player needs.
     Need(NeedRequest<'a>),
+    /// The games of sessions.
+    Seats(SeatsRequest<'m, 'a>),
+    /// The standings of a tournament.
+    Standings(StandingsRequest<'m, 'a>),
     /// A place that there isn't.
     UnknownPlace(&'a str),
     /// The answers to the record lines of files, each a table, by so many workers.
@@ -72,6 +76,8 @@ pub enum GameForm {
     Explained,
     /// As objects of JSON, one for each.
     Objects,
+    /// As sheets of columns, one for each game.
+    Sheet,
 }
 
 /// What a player needs for a place in the next deal of the last game of a file.
@@ -85,6 +91,63 @@ pub struct NeedRequest<'a> {
     pub riichi: Option<&'a str>,
     /// The rules for hands of games that name none.
     pub rules: Rules,
+}
+
+/// Who sits where in the sessions of a tournament.
+#[derive(Clone, Copy, Debug)]
+pub struct SeatsRequest<'m, 'a> {
+    /// The file of the names.
+    pub file: &'a str,
+    pub sessions: u32,
+    pub seed: u32,
+    /// The words of the rules of a table that stand behind each game.
+    pub words: Option<&'a str>,
+    /// Whether it isn't to be shown how far the search is.
+    pub is_quiet: bool,
+    /// The files of the games so far, where the players sit by their standings.
+    pub so_far: Option<&'m [&'a str]>,
+    /// What parts equal totals there.
+    pub ties: TieWord,
+    /// The rules for hands of games there that name none.
+    pub rules: Rules,
+}
+
+/// The standings of a tournament by the games of files.
+#[derive(Clone, Copy)]
+pub struct StandingsRequest<'m, 'a> {
+    /// The files; `-` is standard input.
+    pub files: &'m [&'a str],
+    /// How many files are judged side by side.
+    pub workers: u32,
+    /// What parts equal totals.
+    pub ties: TieWord,
+    pub form: StandingsForm,
+    /// The rules for hands of games that name none.
+    pub rules: Rules,
+}
+
+/// What parts players with equal totals.
+#[derive(Clone, Copy, Debug, PartialEq, Eq)]
+pub enum TieWord {
+    /// Nothing.
+    Shared,
+    /// More first places.
+    Firsts,
+    /// The best game.
+    Best,
+}
+
+/// How standings are written.
+#[derive(Clone, Copy, Debug, PartialEq, Eq)]
+pub enum StandingsForm {
+    /// In words, a line a player.
+    Words,
+    /// As JSON, an object a player.
+    Json,
+    /// As a table, with commas between the values of a row.
+    Csv,
+    /// In columns, to be read by people.
+    Sheet,
 }
 
 /// How record lines are answered.
@@ -156,6 +219,8 @@ fn command_request<'m, 'a>(
         CommandName::Score => score_request(words),
         CommandName::Game => Some(games_request(words)),
         CommandName::Need => need_request(words),
+        CommandName::Seats => seats_request(words),
+        CommandName::Standings => standings_request(words),
         CommandName::HelpCodes => Some(Request::HelpCodes),
         CommandName::HelpRules => Some(Request::HelpRules),
         CommandName::HelpYaku => Some(Request::HelpYaku),
@@ -258,12 +323,68 @@ fn game_form_in(words: &ArgMatches<'_>) -> GameForm
 {
     let is_json = words.get_flag("json");
     let is_explained = words.get_flag("explain");
-    if is_json {
+    if words.get_flag("sheet") {
+        GameForm::Sheet
+    } else if is_json {
         GameForm::Objects
     } else if is_explained {
         GameForm::Explained
     } else {
         GameForm::Answers
+    }
+}
+
+fn standings_request<'m, 'a>(words: &'m ArgMatches<'a>) -> Option<Request<'m, 'a>>
+    ensures { spec.AsksForStandings (found_of words.now) result }
+{
+    let files = words.get_strs("FILE")?;
+    let workers = words.get_one("workers")?;
+    let ties = ties_in(words)?;
+    Some(match rules_in(words) {
+        Ok(rules) => Request::Standings(StandingsRequest {
+            files,
+            workers,
+            ties,
+            form: standings_form_in(words),
+            rules,
+        }),
+        Err(word) => Request::UnknownRules(word),
+    })
+}
+
+/// What parts equal totals.
+fn ties_in(words: &ArgMatches<'_>) -> Option<TieWord>
+    ensures { result ≡ spec.ties_said (spec.ties_option (found_of words.now)) }
+{
+    ties_said(words.get_str("ties").unwrap_or("none"))
+}
+
+/// What a word says that parts equal totals.
+fn ties_said(word: &str) -> Option<TieWord>
+    ensures { result ≡ spec.ties_said word.now }
+{
+    match word {
+        "none" => Some(TieWord::Shared),
+        "firsts" => Some(TieWord::Firsts),
+        "best" => Some(TieWord::Best),
+        _ => None,
+    }
+}
+
+/// The form that standings are wanted in; where several are said, as JSON, or else as a table.
+fn standings_form_in(words: &ArgMatches<'_>) -> StandingsForm
+    ensures { spec.IsStandingsForm (found_of words.now) result }
+{
+    let is_table = words.get_flag("csv");
+    let is_sheet = words.get_flag("sheet");
+    if words.get_flag("json") {
+        StandingsForm::Json
+    } else if is_table {
+        StandingsForm::Csv
+    } else if is_sheet {
+        StandingsForm::Sheet
+    } else {
+        StandingsForm::Words
     }
 }
 
@@ -344,6 +465,28 @@ fn place_said(word: &str) -> Option<u8>
         Some(4)
     } else {
         None
+    }
+}
+
+fn seats_request<'m, 'a>(words: &'m ArgMatches<'a>) -> Option<Request<'m, 'a>>
+    ensures { spec.AsksForSeats (found_of words.now) result }
+{
+    let file = words.get_str("FILE")?;
+    let sessions = words.get_one("SESSIONS")?;
+    let seed = words.get_one("seed")?;
+    let ties = ties_in(words)?;
+    match rules_in(words) {
+        Ok(rules) => Some(Request::Seats(SeatsRequest {
+            file,
+            sessions,
+            seed,
+            words: words.get_str("words"),
+            is_quiet: words.get_flag("quiet"),
+            so_far: words.get_strs("standings"),
+            ties,
+            rules,
+        })),
+        Err(word) => Some(Request::UnknownRules(word)),
     }
 }
 

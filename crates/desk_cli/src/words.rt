@@ -2,100 +2,106 @@
 use crate::command::CommandName;
 use crate::help::{
     CODES_HELP, EXPLAIN_HELP, GAME_HELP, LINE_HELP, NEED_HELP, PROGRAM_HELP, REPLAY_HELP,
-    RULES_HELP, SCORE_HELP, SHAPE_HELP, WAITS_HELP, WIN_HELP, YAKU_HELP,
+    RULES_HELP, SCORE_HELP, SEATS_HELP, SHAPE_HELP, STANDINGS_HELP, WAITS_HELP, WIN_HELP,
+    YAKU_HELP,
 };
 use clap::{Arg, ArgAction, Command, value_parser};
 use std::alloc::{AllocError, Global};
 
 /// The commands and their words. The help says `riichi_desk`, whatever the program's file is named.
 pub fn commands<'a>(alloc: Global) -> Result<Command<'a>, AllocError> {
-    let program = Command::new(alloc, "riichi_desk")
-        .bin_name("riichi_desk")?
+    let mut program = program(alloc)?;
+    for name in CommandName::ALL {
+        let command = command(alloc, name)?;
+        program = program.subcommand(command)?;
+    }
+    Ok(program)
+}
+
+/// The program without its commands.
+fn program<'a>(alloc: Global) -> Result<Command<'a>, AllocError> {
+    let program = Command::new(alloc, "riichi_desk").bin_name("riichi_desk")?;
+    let program = program
         .version("0.1.0")
         .about("A scoring desk for riichi mahjong: hands in Tenhou notation in, answers out")
         .after_help(PROGRAM_HELP)
         .subcommand_required(true);
-    let program = with_hands(alloc, program)?;
-    let program = with_files(alloc, program)?;
-    let program = with_games(alloc, program)?;
-    with_helps(alloc, program)
+    Ok(program)
 }
 
-/// With the commands that answer one hand.
-fn with_hands<'a>(alloc: Global, program: Command<'a>) -> Result<Command<'a>, AllocError> {
-    let program = with_command(program, win_command(alloc))?;
-    let program = with_command(program, waits_command(alloc))?;
-    with_command(program, shape_command(alloc))
+/// A command with its words.
+fn command<'a>(alloc: Global, name: CommandName) -> Result<Command<'a>, AllocError> {
+    match name {
+        CommandName::Win => win_command(alloc),
+        CommandName::Waits => waits_command(alloc),
+        CommandName::Shape => shape_command(alloc),
+        CommandName::Line => line_command(alloc),
+        CommandName::Explain => explain_command(alloc),
+        CommandName::Replay => replay_command(alloc),
+        CommandName::Score => score_command(alloc),
+        CommandName::Game => game_command(alloc),
+        CommandName::Need => need_command(alloc),
+        CommandName::Seats => seats_command(alloc),
+        CommandName::Standings => standings_command(alloc),
+        CommandName::HelpCodes => Ok(codes_command(alloc)),
+        CommandName::HelpRules => Ok(rules_command(alloc)),
+        CommandName::HelpYaku => Ok(yaku_command(alloc)),
+    }
 }
 
-/// With the commands that answer lines.
-fn with_files<'a>(alloc: Global, program: Command<'a>) -> Result<Command<'a>, AllocError> {
-    let program = with_command(program, line_command(alloc))?;
-    let program = with_command(program, explain_command(alloc))?;
-    let program = with_command(program, replay_command(alloc))?;
-    with_command(program, score_command(alloc))
-}
-
-/// With the commands that keep games.
-fn with_games<'a>(alloc: Global, program: Command<'a>) -> Result<Command<'a>, AllocError> {
-    let program = with_command(program, game_command(alloc))?;
-    with_command(program, need_command(alloc))
-}
-
-/// With a command, where there was memory for it.
-fn with_command<'a>(
-    program: Command<'a>,
-    command: Result<Command<'a>, AllocError>,
-) -> Result<Command<'a>, AllocError> {
-    program.subcommand(command?)
-}
-
-/// With the commands that print tables.
-fn with_helps<'a>(alloc: Global, program: Command<'a>) -> Result<Command<'a>, AllocError> {
-    program
-        .subcommand(codes_command(alloc))?
-        .subcommand(rules_command(alloc))?
-        .subcommand(yaku_command(alloc))
+/// A command with what the help says of it, and without words.
+fn named<'a>(
+    alloc: Global,
+    name: CommandName,
+    about: &'static str,
+    help: &'static str,
+) -> Command<'a> {
+    Command::new(alloc, name.word())
+        .about(about)
+        .after_help(help)
 }
 
 fn win_command<'a>(alloc: Global) -> Result<Command<'a>, AllocError> {
-    Command::new(alloc, CommandName::Win.word())
-        .about("Prints what a winning hand is worth")
-        .after_help(WIN_HELP)
-        .arg(rules_arg(alloc))?
-        .arg(hand_arg(
+    let args = vec![in alloc;
+        rules_arg(alloc),
+        hand_arg(
             alloc,
-            "Thirteen tiles before the winning one, such as 234m567m345p67s99s",
-        ))?
-        .arg(words_arg(
+            "Thirteen tiles before the winning one, such as 234m567m345p67s99s"
+        ),
+        words_arg(
             alloc,
             "on=, by=, seat= and round=; open=, riichi=, flags=, dora=, ura=, counters=, sticks=",
-        ))
+        ),
+    ]?;
+    let about = "Prints what a winning hand is worth";
+    named(alloc, CommandName::Win, about, WIN_HELP).args(args)
 }
 
 fn waits_command<'a>(alloc: Global) -> Result<Command<'a>, AllocError> {
-    Command::new(alloc, CommandName::Waits.word())
-        .about("Prints the kinds of tile that complete a hand of thirteen tiles")
-        .after_help(WAITS_HELP)
-        .arg(hand_arg(
+    let args = vec![in alloc;
+        hand_arg(
             alloc,
-            "Thirteen tiles: digits, then m, p, s or z, such as 1112345678999m",
-        ))?
-        .arg(words_arg(alloc, "open= with the melds"))
+            "Thirteen tiles: digits, then m, p, s or z, such as 1112345678999m"
+        ),
+        words_arg(alloc, "open= with the melds"),
+    ]?;
+    let about = "Prints the kinds of tile that complete a hand of thirteen tiles";
+    named(alloc, CommandName::Waits, about, WAITS_HELP).args(args)
 }
 
 fn shape_command<'a>(alloc: Global) -> Result<Command<'a>, AllocError> {
-    Command::new(alloc, CommandName::Shape.word())
-        .about("Prints how far a hand is from ready, and which tiles bring it nearer")
-        .after_help(SHAPE_HELP)
-        .arg(hand_arg(
+    let args = vec![in alloc;
+        hand_arg(
             alloc,
-            "Thirteen tiles, or fourteen before a discard, such as 123456789m1134p",
-        ))?
-        .arg(words_arg(
+            "Thirteen tiles, or fourteen before a discard, such as 123456789m1134p"
+        ),
+        words_arg(
             alloc,
-            "open= with the melds, seen= with tiles that are seen elsewhere",
-        ))
+            "open= with the melds, seen= with tiles that are seen elsewhere"
+        ),
+    ]?;
+    let about = "Prints how far a hand is from ready, and which tiles bring it nearer";
+    named(alloc, CommandName::Shape, about, SHAPE_HELP).args(args)
 }
 
 fn hand_arg<'a>(alloc: Global, help: &'static str) -> Arg<'a> {
@@ -135,27 +141,25 @@ fn rules_arg<'a>(alloc: Global) -> Arg<'a> {
 }
 
 fn line_command<'a>(alloc: Global) -> Result<Command<'a>, AllocError> {
-    let command = Command::new(alloc, CommandName::Line.word())
-        .about("Answers hands from standard input or files, one a line: wins, waits, shapes")
-        .after_help(LINE_HELP)
-        .arg(rules_arg(alloc))?;
-    with_source(alloc, command)?
-        .arg(line_workers_arg(alloc)?)?
-        .arg(quiet_arg(alloc))?
-        .arg(json_arg(
+    let workers = line_workers_arg(alloc)?;
+    let args = vec![in alloc;
+        rules_arg(alloc),
+        file_arg(alloc),
+        number_arg(alloc),
+        workers,
+        quiet_arg(alloc),
+        json_arg(
             alloc,
-            "Answers each hand by one object of JSON, what is refused too",
-        ))
+            "Answers each hand by one object of JSON, what is refused too"
+        ),
+    ]?;
+    let about = "Answers hands from standard input or files, one a line: wins, waits, shapes";
+    named(alloc, CommandName::Line, about, LINE_HELP).args(args)
 }
 
 /// How many threads answer lines that have no numbers.
 fn line_workers_arg<'a>(alloc: Global) -> Result<Arg<'a>, AllocError> {
     workers_arg(alloc, "Answers by so many threads").conflicts_with("number")
-}
-
-/// With the words that say which lines are answered, and whether by their numbers.
-fn with_source<'a>(alloc: Global, command: Command<'a>) -> Result<Command<'a>, AllocError> {
-    command.arg(file_arg(alloc))?.arg(number_arg(alloc))
 }
 
 /// Files in place of standard input.
@@ -201,17 +205,20 @@ fn all_arg<'a>(alloc: Global) -> Arg<'a> {
 }
 
 fn explain_command<'a>(alloc: Global) -> Result<Command<'a>, AllocError> {
-    let command = Command::new(alloc, CommandName::Explain.word())
-        .about("Answers hands as the command line does, and says below each answer why it is so")
-        .after_help(EXPLAIN_HELP)
-        .arg(rules_arg(alloc))?
-        .arg(all_arg(alloc))?;
-    with_source(alloc, command)?
-        .arg(json_arg(
+    let lines = lines_arg(alloc)?;
+    let args = vec![in alloc;
+        rules_arg(alloc),
+        all_arg(alloc),
+        file_arg(alloc),
+        number_arg(alloc),
+        json_arg(
             alloc,
             "Answers each hand by one object of JSON, of a win with the member why, by every reading",
-        ))?
-        .arg(lines_arg(alloc)?)
+        ),
+        lines,
+    ]?;
+    let about = "Answers hands as the command line does, and says below each answer why it is so";
+    named(alloc, CommandName::Explain, about, EXPLAIN_HELP).args(args)
 }
 
 /// The hands to explain, in place of files.
@@ -225,21 +232,18 @@ fn lines_arg<'a>(alloc: Global) -> Result<Arg<'a>, AllocError> {
 }
 
 fn codes_command<'a>(alloc: Global) -> Command<'a> {
-    Command::new(alloc, CommandName::HelpCodes.word())
-        .about("Prints every refusal, fault and exit status in words")
-        .after_help(CODES_HELP)
+    let about = "Prints every refusal, fault and exit status in words";
+    named(alloc, CommandName::HelpCodes, about, CODES_HELP)
 }
 
 fn yaku_command<'a>(alloc: Global) -> Command<'a> {
-    Command::new(alloc, CommandName::HelpYaku.word())
-        .about("Prints every yaku: its word, its Japanese name, its han and its condition")
-        .after_help(YAKU_HELP)
+    let about = "Prints every yaku: its word, its Japanese name, its han and its condition";
+    named(alloc, CommandName::HelpYaku, about, YAKU_HELP)
 }
 
 fn rules_command<'a>(alloc: Global) -> Command<'a> {
-    Command::new(alloc, CommandName::HelpRules.word())
-        .about("Prints every rule that a table may choose, and which the profiles have")
-        .after_help(RULES_HELP)
+    let about = "Prints every rule that a table may choose, and which the profiles have";
+    named(alloc, CommandName::HelpRules, about, RULES_HELP)
 }
 
 fn replay_command<'a>(alloc: Global) -> Result<Command<'a>, AllocError> {
@@ -248,21 +252,20 @@ fn replay_command<'a>(alloc: Global) -> Result<Command<'a>, AllocError> {
         "FILE",
         "A script: open, submit, arrive, take, withdraw, close, one a line",
     );
-    Command::new(alloc, CommandName::Replay.word())
-        .about("Answers a script of tables that submit hands and are given their answers in order")
-        .after_help(REPLAY_HELP)
-        .arg(file.required(true))
+    let about = "Answers a script of tables that submit hands and are given their answers in order";
+    named(alloc, CommandName::Replay, about, REPLAY_HELP).arg(file.required(true))
 }
 
 fn score_command<'a>(alloc: Global) -> Result<Command<'a>, AllocError> {
-    Command::new(alloc, CommandName::Score.word())
-        .about("Answers hands from files, table by table, with many threads")
-        .after_help(SCORE_HELP)
-        .arg(rules_arg(alloc))?
-        .arg(table_number_arg(alloc))?
-        .arg(quiet_arg(alloc))?
-        .arg(workers_arg(alloc, "How many threads judge hands").default_value("4"))?
-        .arg(tables_arg(alloc))
+    let args = vec![in alloc;
+        rules_arg(alloc),
+        table_number_arg(alloc),
+        quiet_arg(alloc),
+        workers_arg(alloc, "How many threads judge hands").default_value("4"),
+        tables_arg(alloc),
+    ]?;
+    let about = "Answers hands from files, table by table, with many threads";
+    named(alloc, CommandName::Score, about, SCORE_HELP).args(args)
 }
 
 /// That the numbers of lines and the names of tables are wanted.
@@ -285,24 +288,153 @@ fn tables_arg<'a>(alloc: Global) -> Arg<'a> {
 }
 
 fn game_command<'a>(alloc: Global) -> Result<Command<'a>, AllocError> {
-    Command::new(alloc, CommandName::Game.word())
-        .about("Keeps the points of games of four: what each deal changes, and the final points")
-        .after_help(GAME_HELP)
-        .arg(hand_rules_arg(alloc))?
-        .arg(explain_arg(alloc))?
-        .arg(game_json_arg(alloc)?)?
-        .arg(number_arg(alloc))?
-        .arg(games_arg(alloc))
+    let json = game_json_arg(alloc)?;
+    let sheet = game_sheet_arg(alloc)?;
+    let args = vec![in alloc;
+        hand_rules_arg(alloc),
+        explain_arg(alloc),
+        json,
+        sheet,
+        number_arg(alloc),
+        games_arg(alloc),
+    ]?;
+    let about = "Keeps the points of games of four: what each deal changes, and the final points";
+    named(alloc, CommandName::Game, about, GAME_HELP).args(args)
 }
 
 fn need_command<'a>(alloc: Global) -> Result<Command<'a>, AllocError> {
-    Command::new(alloc, CommandName::Need.word())
-        .about("Prints the least wins that bring a player to a place in the next deal of a game")
+    let args = vec![in alloc; hand_rules_arg(alloc), bets_arg(alloc), question_arg(alloc)]?;
+    let about = "Prints the least wins that bring a player to a place in the next deal of a game";
+    named(alloc, CommandName::Need, about, NEED_HELP)
         .override_usage("riichi_desk need [OPTIONS] <NAME> [PLACE] <FILE>")
-        .after_help(NEED_HELP)
-        .arg(hand_rules_arg(alloc))?
-        .arg(bets_arg(alloc))?
-        .arg(question_arg(alloc))
+        .args(args)
+}
+
+fn seats_command<'a>(alloc: Global) -> Result<Command<'a>, AllocError> {
+    let args = vec![in alloc;
+        seed_arg(alloc),
+        behind_arg(alloc),
+        search_quiet_arg(alloc),
+        hand_rules_arg(alloc),
+        ties_arg(alloc),
+        so_far_arg(alloc),
+        players_arg(alloc),
+        sessions_arg(alloc),
+    ]?;
+    let about = "Writes the games of a tournament's sessions, so that as few as can be meet twice";
+    named(alloc, CommandName::Seats, about, SEATS_HELP).args(args)
+}
+
+/// The games so far, by whose standings the players sit.
+fn so_far_arg<'a>(alloc: Global) -> Arg<'a> {
+    let files = option(
+        alloc,
+        "standings",
+        "Seats the players for one session more by their standings in these games: the first four at the first table, and so on",
+    );
+    files.value_name("FILE").num_args(1..)
+}
+
+/// The file of the players.
+fn players_arg<'a>(alloc: Global) -> Arg<'a> {
+    let file = words_of(
+        alloc,
+        "FILE",
+        "The names of the players, one a line, four for each table, 400 at most; standard input for -",
+    );
+    file.required(true)
+}
+
+/// How many sessions are wanted.
+fn sessions_arg<'a>(alloc: Global) -> Arg<'a> {
+    words_of(alloc, "SESSIONS", "How many sessions there are")
+        .required(true)
+        .value_parser(value_parser!(u32).range(1..=32))
+}
+
+/// What the drawing is begun with.
+fn seed_arg<'a>(alloc: Global) -> Arg<'a> {
+    option(
+        alloc,
+        "seed",
+        "Draws by this number; the same number draws the same games",
+    )
+    .value_name("N")
+    .value_parser(value_parser!(u32))
+    .default_value("1")
+}
+
+/// The words of the rules of a table.
+fn behind_arg<'a>(alloc: Global) -> Arg<'a> {
+    option(
+        alloc,
+        "words",
+        "Puts these words of the rules of a table behind each game, as table=league",
+    )
+    .value_name("WORDS")
+}
+
+/// That it isn't wanted to be shown how far the search is.
+fn search_quiet_arg<'a>(alloc: Global) -> Arg<'a> {
+    flag(
+        alloc,
+        "quiet",
+        "Doesn't show on the terminal how far the search is",
+    )
+}
+
+fn standings_command<'a>(alloc: Global) -> Result<Command<'a>, AllocError> {
+    let args = vec![in alloc;
+        hand_rules_arg(alloc),
+        ties_arg(alloc),
+        json_arg(alloc, "Prints an object of JSON for each player"),
+        csv_arg(alloc),
+        sheet_arg(alloc),
+        workers_arg(alloc, "How many files are judged side by side").default_value("4"),
+        tournament_arg(alloc),
+    ]?;
+    let about = "Prints the standings of a tournament by the games of its sessions";
+    named(alloc, CommandName::Standings, about, STANDINGS_HELP).args(args)
+}
+
+/// What parts players with equal totals.
+fn ties_arg<'a>(alloc: Global) -> Arg<'a> {
+    let ties = option(
+        alloc,
+        "ties",
+        "What parts equal totals: nothing, more first places, or the best game",
+    );
+    ties.value_name("WORD")
+        .value_parser(["none", "firsts", "best"].as_slice())
+        .default_value("none")
+}
+
+/// That a table of values with commas between them is wanted.
+fn csv_arg<'a>(alloc: Global) -> Arg<'a> {
+    flag(
+        alloc,
+        "csv",
+        "Prints a table: a row of the columns' names and one for each player, with commas between",
+    )
+}
+
+/// That columns are wanted that people read.
+fn sheet_arg<'a>(alloc: Global) -> Arg<'a> {
+    flag(
+        alloc,
+        "sheet",
+        "Prints columns to be read by people, of lines of 80 columns at most",
+    )
+}
+
+/// The texts of the games of a tournament.
+fn tournament_arg<'a>(alloc: Global) -> Arg<'a> {
+    let files = words_of(
+        alloc,
+        "FILE",
+        "Games that are over, with session= and at= where they say their session and table; standard input for -",
+    );
+    files.required(true).num_args(1..)
 }
 
 /// That it is wanted to be said who pays whom and why.
@@ -321,6 +453,19 @@ fn game_json_arg<'a>(alloc: Global) -> Result<Arg<'a>, AllocError> {
         "Answers each line by one object of JSON, a deal with all that it moves",
     )
     .conflicts_with("explain")
+}
+
+/// That games are wanted as sheets, where nothing else is wanted of the answers.
+fn game_sheet_arg<'a>(alloc: Global) -> Result<Arg<'a>, AllocError> {
+    let sheet = flag(
+        alloc,
+        "sheet",
+        "Prints each game in columns, to be read and signed by people",
+    );
+    sheet
+        .conflicts_with("json")?
+        .conflicts_with("explain")?
+        .conflicts_with("number")
 }
 
 /// The rules for hands of games that name none.

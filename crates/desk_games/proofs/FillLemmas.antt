@@ -45,7 +45,7 @@ none_answered first text plain form = record {
 }
 
 -- a reply in the form and under the rules of the first teller
-reply_for : (first old : Games) (text rest : List ℕ) (answers : List (List ℕ)) (line : List ℕ) (reply : Reply) → AnsweredUpTo first old text rest answers → IsReply old.form old.given old.desk line reply
+pub reply_for : (first old : Games) (text rest : List ℕ) (answers : List (List ℕ)) (line : List ℕ) (reply : Reply) → AnsweredUpTo first old text rest answers → IsReply old.form old.given old.desk line reply
     → IsReply Answers first.given old.desk line reply
 reply_for first old text rest answers line reply so_far is =
     subst (λ (rules : Rules). IsReply Answers rules old.desk line reply) so_far.given (subst (λ (form : GamesForm). IsReply form old.given old.desk line reply) so_far.form is)

@@ -6,3 +6,4 @@ pub mod Outcomes
 pub mod AtHand
 pub mod FillLemmas
 pub mod GamePieces
+pub mod PlayLemmas

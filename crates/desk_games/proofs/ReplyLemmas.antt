@@ -73,7 +73,7 @@ long_seen : (line : List ℕ) → 4096 < length line → seen_in line ≡ Odd
 long_seen line long = seen_odd line (long_is_odd line long)
 
 -- a line may have the reply to this one
-reply_as : (form : GamesForm) (given : Rules) (now : GameDesk) (line next : List ℕ) (reply : Reply) → IsToldAs 4096 line next → IsReply form given now line reply → IsReply form given now next reply
+pub reply_as : (form : GamesForm) (given : Rules) (now : GameDesk) (line next : List ℕ) (reply : Reply) → IsToldAs 4096 line next → IsReply form given now line reply → IsReply form given now next reply
 reply_as form given now line next reply (inl same) is = subst (λ (l : List ℕ). IsReply form given now l reply) same is
 reply_as form given now line next reply (inr long) is =
     let odd : reply ≡ refusal form now G1 = subst (λ (seen : LineOfGame). IsReplyTo form given now seen line reply) (long_seen line long.0) is in
@@ -81,7 +81,7 @@ reply_as form given now line next reply (inr long) is =
 
 -- ---- one more line
 
-replies_last : (form : GamesForm) (given : Rules) (first now : GameDesk) (lines : List (List ℕ)) (line : List ℕ) (replies : List Reply) (reply : Reply) → AreReplies form given first lines replies now
+pub replies_last : (form : GamesForm) (given : Rules) (first now : GameDesk) (lines : List (List ℕ)) (line : List ℕ) (replies : List Reply) (reply : Reply) → AreReplies form given first lines replies now
     → IsReply form given now line reply → AreReplies form given first (lines ++ line ∷ []) (replies ++ reply ∷ []) reply.desk
 replies_last form given first now [] line replies reply are is =
     (reply, [], subst (λ (d : GameDesk). IsReply form given d line reply) are.1 is, ap (λ (told : List Reply). told ++ reply ∷ []) are.0, (refl, refl))
@@ -94,7 +94,7 @@ replies_last form given first now (next ∷ lines) line replies reply are is = (
 )
 
 -- each line has one
-replies_length : (form : GamesForm) (given : Rules) (first now : GameDesk) (lines : List (List ℕ)) (replies : List Reply) → AreReplies form given first lines replies now → length replies ≡ length lines
+pub replies_length : (form : GamesForm) (given : Rules) (first now : GameDesk) (lines : List (List ℕ)) (replies : List Reply) → AreReplies form given first lines replies now → length replies ≡ length lines
 replies_length form given first now [] replies are = ap length are.0
 replies_length form given first now (line ∷ lines) replies are =
     let others : length are.1 ≡ length lines = replies_length form given are.0.desk now lines are.1 are.4 in
@@ -113,7 +113,7 @@ answers_last is_numbered number last (next ∷ replies) reply is =
     ap (cons_option (text_of_reply (number_if is_numbered number) next)) (answers_last is_numbered (number + 1) last replies reply (grind (arith, is)))
     ∙ onto_both (text_of_reply (number_if is_numbered number) next) (answers_from is_numbered (number + 1) replies) (answers_in (text_of_reply (number_if is_numbered last) reply))
 
-kinds_last : (replies : List Reply) (reply : Reply) → report_of (map kind_in (replies ++ reply ∷ [])) ≡ report_with (report_of (map kind_in replies)) reply.kind
+pub kinds_last : (replies : List Reply) (reply : Reply) → report_of (map kind_in (replies ++ reply ∷ [])) ≡ report_with (report_of (map kind_in replies)) reply.kind
 kinds_last replies reply = ap report_of (map-append kind_in replies (reply ∷ [])) ∙ report_of_more (map kind_in replies) reply.kind
 
 -- one more line is answered

@@ -22,13 +22,14 @@ use Rattle.riichi_game_text.specs.WonValues.{won_values}
 use Rattle.riichi_game_text.specs.declared.won_value.WonValue.{WonValue}
 use Rattle.desk_games.specs.declared.below.Step.{Step}
 use Rattle.desk_games.specs.declared.form.GamesForm.{GamesForm}
-use Rattle.desk_games.specs.declared.form.GamesForm.TheVariants.{Answers, Explained, Objects}
+use Rattle.desk_games.specs.declared.form.GamesForm.TheVariants.{Answers, Explained, Objects, Sheet}
 
 -- whether it is said why answers are so
 abbrev pub explains : GamesForm → Bool
 explains Answers = false
 explains Explained = true
 explains Objects = false
+explains Sheet = false
 
 -- ---- a deal
 

@@ -9,6 +9,8 @@ use Rattle.riichi_game_text.specs.FinalTexts.{over_text}
 use Rattle.riichi_game_text.specs.GameLines.{GameSaid}
 use Rattle.riichi_game_json.specs.Finals.{over_members}
 use Rattle.riichi_game_json.specs.States.{stands_members}
+use Rattle.riichi_game_sheet.specs.Deals.{stands_row}
+use Rattle.riichi_game_sheet.specs.Ends.{over_rows}
 use Rattle.desk_games.specs.Below.{below_end}
 use Rattle.desk_games.specs.Forms.{writing_of, written}
 use Rattle.desk_games.specs.Played.{GameSoFar, hold}
@@ -71,8 +73,13 @@ end_members game =
 unfoldable pub end_object : GameSoFar → List ℕ
 end_object game = codes "{" ++ end_members game
 
+-- the same as rows of a sheet, with an empty one behind them
+unfoldable pub end_rows : GameSoFar → List ℕ
+end_rows game =
+    (if has_ended game then over_rows game.names game.progress.state.sticks (finals game) else stands_row game.progress.state) ++ codes "\n"
+
 abbrev pub end_text_in : GamesForm → GameSoFar → List ℕ
-end_text_in form game = written (writing_of form) (end_text game) (end_object game)
+end_text_in form game = written (writing_of form) (end_text game) (end_object game) (end_rows game)
 
 abbrev pub below_end_of : GamesForm → GameSoFar → List ℕ
 below_end_of form game = below_end form (has_ended game) game.names game.rules (finals game)

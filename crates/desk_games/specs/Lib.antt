@@ -1,6 +1,7 @@
 pub mod Forms
 pub mod Played
 pub mod Pending
+pub mod Playing
 pub mod Below
 pub mod Desks
 pub mod Replies

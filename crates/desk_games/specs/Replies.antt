@@ -22,6 +22,8 @@ use Rattle.riichi_game_json.specs.Begun.{begun_members}
 use Rattle.riichi_game_json.specs.Deals.{outcome_members}
 use Rattle.riichi_game_json.specs.Refusals.{refused_members}
 use Rattle.riichi_game_json.specs.States.{stands_members}
+use Rattle.riichi_game_sheet.specs.Begun.{begun_rows}
+use Rattle.riichi_game_sheet.specs.Deals.{outcome_rows, stands_row}
 use Rattle.desk_games.specs.Below.{GameStep, below_deal, said_end}
 use Rattle.desk_games.specs.Forms.{writing_of, written}
 use Rattle.desk_games.specs.Played.{GameSoFar, release, come_back}
@@ -30,7 +32,7 @@ use Rattle.desk_games.specs.declared.desk.GameDesk.{GameDesk}
 use Rattle.desk_games.specs.declared.desk.GameDesk.TheVariants as desk
 use Rattle.desk_games.specs.declared.form.GamesForm.{GamesForm}
 use Rattle.desk_games.specs.declared.form.Writing.{Writing}
-use Rattle.desk_games.specs.declared.form.Writing.TheVariants.{Words, Members}
+use Rattle.desk_games.specs.declared.form.Writing.TheVariants.{Words, Members, Rows}
 
 -- ---- what a line is, before any game is looked at
 
@@ -71,8 +73,9 @@ pub record Reply : Type 0 where
 abbrev pub blank_reply : GamesForm → GameDesk → Reply
 blank_reply form now = record { form = form; ended = None; answer = None; outcome = None; kind = NoRecord; desk = now }
 
+-- in a sheet a refused line has its words as a row
 unfoldable pub refused_in : GamesForm → GameFault → List ℕ
-refused_in form fault = written (writing_of form) (refused_text fault) (refused_members fault)
+refused_in form fault = written (writing_of form) (refused_text fault) (refused_members fault) (refused_text fault)
 
 -- a line is refused, and holds its game; behind a refused line of the same game that is its fault, whatever it says
 abbrev pub refusal : GamesForm → GameDesk → GameFault → Reply
@@ -86,7 +89,7 @@ refusal form now fault = record {
 }
 
 unfoldable pub begun_in : GamesForm → GameSaid → List ℕ
-begun_in form said = written (writing_of form) (begun_text said.names said.rules.start) (begun_members said)
+begun_in form said = written (writing_of form) (begun_text said.names said.rules.start) (begun_members said) (begun_rows said)
 
 -- a line `game` ends the game before it
 abbrev pub begin_reply : GamesForm → GameDesk → Option GameSaid → Reply
@@ -113,9 +116,15 @@ answer_to_outcome form step (Penalty player points) = Some (penalty_text (of_pla
 answer_to_outcome form step End = said_end form step
 answer_to_outcome form step other = Some (deal_text step.before.state step.after.state.points ++ below_deal form step)
 
+-- in a sheet it has its rows, but for an `end`
+abbrev pub rows_of_outcome : GameStep → Outcome → Option (List ℕ)
+rows_of_outcome step End = None
+rows_of_outcome step other = Some (outcome_rows step.names step.rules step.before.state step.after.state.points other)
+
 abbrev pub outcome_written : Writing → GamesForm → GameStep → Option (List ℕ)
 outcome_written Words form step = answer_to_outcome form step step.outcome
 outcome_written Members form step = Some (outcome_members step.rules step.before step.after step.outcome)
+outcome_written Rows form step = rows_of_outcome step step.outcome
 
 -- the answer to an outcome by how far the game had come before it and has come after it
 abbrev pub outcome_answer : GamesForm → GameStep → Option (List ℕ)
@@ -155,7 +164,7 @@ game_reply form game line =
 -- ---- where a line is taken back
 
 unfoldable pub stands_in : GamesForm → GameState → List ℕ
-stands_in form state = written (writing_of form) (stands_text state) (stands_members state)
+stands_in form state = written (writing_of form) (stands_text state) (stands_members state) (stands_row state)
 
 -- the answer is the state that the game is in again
 abbrev pub back_reply : GamesForm → GameSoFar → Reply

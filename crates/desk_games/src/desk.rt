@@ -36,7 +36,7 @@ impl GameDesk {
     }
 
     /// Whether a line of the game at hand was refused, the line `game` among them.
-    fn is_held(&self) -> bool
+    pub fn is_held(&self) -> bool
         ensures { result ≡ spec.is_held_desk self.now }
     {
         match self {

@@ -101,7 +101,7 @@ fn fill_lines(games: &mut Games, text: &[u8], room: &mut [u8], outbox: &mut Outb
 }
 
 /// Takes the next line, and leaves its answer alone in the outbox.
-fn answer_alone(games: &mut Games, line: &[u8], outbox: &mut Outbox) -> LineKind
+pub(crate) fn answer_alone(games: &mut Games, line: &[u8], outbox: &mut Outbox) -> LineKind
     ensures given { TellsAlike games.new games.old }
     ensures reply { (reply : Reply)
         × IsReply games.old.form games.old.given games.old.desk line.now reply

@@ -12,6 +12,8 @@ pub enum GamesForm {
     Explained,
     /// Each answer as an object of JSON on a line of its own, that to a deal with all that it moves.
     Objects,
+    /// Each game as a sheet of columns, to be printed, read and signed by people, with an empty row behind it.
+    Sheet,
 }
 
 /// What an answer is written as.
@@ -21,6 +23,8 @@ pub(crate) enum Writing {
     Words,
     /// The members of an object.
     Members,
+    /// The rows of a sheet.
+    Rows,
 }
 
 impl GamesForm {
@@ -29,7 +33,7 @@ impl GamesForm {
         ensures { result ≡ explains self }
     {
         match self {
-            GamesForm::Answers | GamesForm::Objects => false,
+            GamesForm::Answers | GamesForm::Objects | GamesForm::Sheet => false,
             GamesForm::Explained => true,
         }
     }
@@ -41,6 +45,7 @@ impl GamesForm {
         match self {
             GamesForm::Answers | GamesForm::Explained => Writing::Words,
             GamesForm::Objects => Writing::Members,
+            GamesForm::Sheet => Writing::Rows,
         }
     }
 }

@@ -21,6 +21,7 @@ use desk_lines::{LineKind, Outbox};
 use riichi_game::Progress;
 use riichi_game_json as members;
 use riichi_game_reasons::{MOST_FINAL_REASONS, push_final_reasons};
+use riichi_game_sheet as rows;
 use riichi_game_text::{
     AcceptedLine, GameFault, GameLine, MOST_OVER, Names, push_over, push_stands, read_entry,
 };
@@ -154,6 +155,22 @@ impl GameAtHand {
         }
     }
 
+    /// Writes the same as rows of a sheet, with an empty one behind them.
+    #[tactic(auto, unfolding(crate::specs::Desks::end_rows))]
+    fn push_end_rows(&self, text: &mut AnswerText)
+        requires { array_string_len text.old + MOST_END ≤ ANSWER_ROOM }
+        ensures bytes { text.new.bytes ≡ text.old.bytes ++ spec.end_rows self.now }
+        ensures len { array_string_len text.new ≤ array_string_len text.old + MOST_END }
+    {
+        let state = &self.progress.state;
+        if self.has_ended() {
+            rows::push_over(text, &self.names, state.sticks, &self.finals());
+        } else {
+            rows::push_stands(text, state);
+        }
+        text.push_str("\n");
+    }
+
     /// Writes the same in a form of answers.
     fn push_end_in(&self, form: GamesForm, text: &mut AnswerText)
         requires { array_string_len text.old + MOST_END ≤ ANSWER_ROOM }
@@ -163,6 +180,7 @@ impl GameAtHand {
         match form.writing() {
             Writing::Words => self.push_end(text),
             Writing::Members => self.push_end_object(text),
+            Writing::Rows => self.push_end_rows(text),
         }
     }
 

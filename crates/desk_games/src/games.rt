@@ -46,7 +46,28 @@ impl Games {
         }
     }
 
+    /// The rules for hands of a game whose line `game` names none.
+    pub fn given(&self) -> Rules
+        ensures { result ≡ self.now.given }
+    {
+        self.given
+    }
+
+    /// Whether each answer stands behind the number of its line.
+    pub fn is_numbered(&self) -> bool
+        ensures { result ≡ self.now.is_numbered }
+    {
+        self.is_numbered
+    }
+
     /// The text of games so far.
+    pub fn desk(&self) -> &GameDesk
+        ensures { result.now ≡ self.now.desk }
+    {
+        &self.desk
+    }
+
+    /// The text of games behind the last line.
     pub fn into_desk(self) -> GameDesk
         ensures { result ≡ self.desk }
     {
@@ -54,7 +75,7 @@ impl Games {
     }
 
     /// Takes the next line, and puts its answer.
-    pub(crate) fn take(&mut self, front: Option<u64>, line: &[u8], outbox: &mut Outbox) -> LineKind
+    pub fn take(&mut self, front: Option<u64>, line: &[u8], outbox: &mut Outbox) -> LineKind
         requires { HasRoomForLine outbox.old }
         ensures given { TellsAlike self.new self.old }
         ensures reply { (reply : Reply)
@@ -105,7 +126,7 @@ impl Games {
 }
 
 /// Whether a line has the first word `undo` and none behind it.
-fn says_undo(first: &[u8], behind: &[u8]) -> bool
+pub fn says_undo(first: &[u8], behind: &[u8]) -> bool
     ensures { result ≡ replies.says_undo first.now (said_in behind.now) }
 {
     first == b"undo".as_slice() && next_said(behind).is_none()

@@ -4,7 +4,7 @@
 //! [`GamesReport`]: how many lines were answered and how many refused, and the [`GameDesk`] behind the last line, or a
 //! [`DeskFault`] for which it gave up. [`games_text_with`] has a [`GamesForm`], can put each answer behind the number of its line, and
 //! [`games_played`] returns the [`GameDesk`] without any answers. [`fill_games`] answers a text in memory into a room, from any
-//! line on.
+//! line on, and [`play_game`] plays the games of a text in memory one after another.
 //!
 //! A [`GameDesk`] is a text of games so far: no game yet, one whose line `game` was refused, or a [`GameAtHand`], with its players,
 //! its rules and how far it has come. A line that is refused holds its game: each line behind it is refused too, until another game
@@ -28,6 +28,7 @@ mod game_at_hand;
 mod games;
 pub mod laws;
 mod played;
+mod playing;
 mod puts;
 mod report;
 mod text;
@@ -38,7 +39,8 @@ pub use desk_lines::{DeskFault, DeskReport, Filled};
 pub use filling::fill_games;
 pub use form::GamesForm;
 pub use game_at_hand::GameAtHand;
-pub use games::Games;
+pub use games::{Games, says_undo};
 pub use played::games_played;
+pub use playing::{PlayedGame, play_game};
 pub use report::GamesReport;
-pub use text::{games_text, games_text_with};
+pub use text::{games_text, games_text_with, write_end};

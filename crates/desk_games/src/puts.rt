@@ -11,13 +11,14 @@ ghost use Rattle.desk_games.specs.Below.{below_deal, said_end, step_in};
 ghost use Rattle.desk_games.specs.Forms.{front_text, number_front, brace_front};
 ghost use Rattle.desk_games.specs.Replies.{begun_in, outcome_answer, outcome_written, refused_in, stands_in};
 ghost use Rattle.desk_games.specs.Texts.{behind_front};
-ghost use Rattle.desk_games.specs.declared.form.Writing.TheVariants.{Words, Members};
+ghost use Rattle.desk_games.specs.declared.form.Writing.TheVariants.{Words, Members, Rows};
 
 use crate::below::{Step, put_below};
 use crate::form::{GamesForm, Writing};
 use desk_lines::Outbox;
 use riichi_game_json as members;
 use riichi_game_reasons::{EndReason, push_end_reason};
+use riichi_game_sheet as rows;
 use riichi_game_text::{
     GameFault, GameLine, Names, push_begun, push_deal, push_penalty, push_refused, push_stands,
 };
@@ -44,6 +45,7 @@ fn begin_text(manner: Manner, text: &mut AnswerText)
     match manner.form.writing() {
         Writing::Words => push_number_front(text, manner.front),
         Writing::Members => push_brace_front(text, manner.front),
+        Writing::Rows => {}
     }
 }
 
@@ -84,7 +86,7 @@ pub(crate) fn put_refused(manner: Manner, fault: GameFault, outbox: &mut Outbox)
 {
     begin_text(manner, &mut outbox.text);
     match manner.form.writing() {
-        Writing::Words => push_refused(&mut outbox.text, &fault),
+        Writing::Words | Writing::Rows => push_refused(&mut outbox.text, &fault),
         Writing::Members => members::push_refused(&mut outbox.text, &fault),
     }
     outbox.put_text();
@@ -101,6 +103,7 @@ pub(crate) fn put_begun(manner: Manner, line: &GameLine, outbox: &mut Outbox)
     match manner.form.writing() {
         Writing::Words => push_begun(&mut outbox.text, &line.names, line.rules.start),
         Writing::Members => members::push_begun(&mut outbox.text, line),
+        Writing::Rows => rows::push_begun(&mut outbox.text, line),
     }
     outbox.put_text();
 }
@@ -115,6 +118,7 @@ pub(crate) fn put_outcome(manner: Manner, step: &Step<'_>, outbox: &mut Outbox)
     match manner.form.writing() {
         Writing::Words => put_in_words(manner, step, outbox),
         Writing::Members => put_members(manner, step, outbox),
+        Writing::Rows => put_rows(manner, step, outbox),
     }
 }
 
@@ -131,6 +135,28 @@ fn put_members(manner: Manner, step: &Step<'_>, outbox: &mut Outbox)
         step.rules,
         step.before,
         step.after,
+        step.outcome,
+    );
+    outbox.put_text();
+}
+
+/// Puts the rows of an outcome, where it has some.
+fn put_rows(manner: Manner, step: &Step<'_>, outbox: &mut Outbox)
+    requires { HasRoomForText outbox.old }
+    ensures { let answer = outcome_written Rows manner.form (step_in step.now) in
+        outbox.new.bytes.items ≡ outbox.old.bytes.items
+        ++ with_line_feed (behind_front (front_text manner.form manner.front) answer) }
+{
+    if matches!(step.outcome, Outcome::End) {
+        return;
+    }
+    begin_text(manner, &mut outbox.text);
+    rows::push_outcome(
+        &mut outbox.text,
+        step.names,
+        step.rules,
+        &step.before.state,
+        &step.after.state.points,
         step.outcome,
     );
     outbox.put_text();
@@ -184,6 +210,7 @@ pub(crate) fn put_stands(manner: Manner, state: &GameState, outbox: &mut Outbox)
     match manner.form.writing() {
         Writing::Words => push_stands(&mut outbox.text, state),
         Writing::Members => members::push_stands(&mut outbox.text, state),
+        Writing::Rows => rows::push_stands(&mut outbox.text, state),
     }
     outbox.put_text();
 }

@@ -75,7 +75,7 @@ pub fn games_text_with<R: Source, W: Sink>(
 }
 
 /// Writes what is told behind the last line of a text of games.
-fn write_end<W: Sink>(form: GamesForm, desk: &GameDesk, writer: &mut W) -> Result<(), DeskFault>
+pub fn write_end<W: Sink>(form: GamesForm, desk: &GameDesk, writer: &mut W) -> Result<(), DeskFault>
     ensures { Writes ⟦<W as Sink>⟧
         writer.old writer.new result (with_line_feed (told_at_end form desk.now)) }
 {

@@ -54,6 +54,12 @@ pub(crate) fn are_numbered_objects(
     is_told(rt, true, GamesForm::Objects, text, answers)
 }
 
+/// The sheets of a text under the first profile, which have no numbers of lines.
+pub(crate) fn is_sheet(rt: &impl Abort, text: &[u8], rows: &[u8]) -> Result<(), Fail> {
+    is_told(rt, false, GamesForm::Sheet, text, rows)?;
+    is_told(rt, true, GamesForm::Sheet, text, rows)
+}
+
 /// The answers to a text under the first profile, and how many lines are answered and refused.
 pub(crate) fn is_counted(
     rt: &impl Abort,

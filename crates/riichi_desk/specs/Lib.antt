@@ -6,3 +6,4 @@ pub mod Failures
 pub mod Outcomes
 pub mod Slips
 pub mod Openings
+pub mod Standing

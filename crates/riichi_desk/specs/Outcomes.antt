@@ -35,5 +35,6 @@ IsCarriedOut (requests.Score files workers rules is_numbered is_quiet) outcome =
 IsCarriedOut (requests.Replay file) outcome = Unit {0}
 IsCarriedOut (requests.Games files manner) outcome = Unit {0}
 IsCarriedOut (requests.Need need) outcome = Unit {0}
+IsCarriedOut (requests.Standings asked) outcome = Unit {0}
 IsCarriedOut (requests.UnknownPlace word) outcome = TellsNoPlace word outcome
 IsCarriedOut table outcome = IfOk outcome (λ is_refused. is_refused ≡ false)

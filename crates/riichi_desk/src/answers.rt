@@ -12,13 +12,15 @@ ghost use Rattle.riichi_desk.specs.Outcomes.{IsCarriedOut, TellsUnknown, TellsWa
 use crate::codes::print_codes;
 use crate::failure::{Failure, report};
 use crate::files::{length_of, open_file};
-use crate::games::answer_games;
+use crate::games::{answer_games, is_hinted};
 use crate::lines::answer_lines;
 use crate::needs::answer_need;
 use crate::noted::Notes;
 use crate::progress::{Progress, Terminals};
 use crate::rules::print_rules;
 use crate::scoring::{Scoring, score_files};
+use crate::seats::answer_seats;
+use crate::standings::answer_standings;
 use crate::version::print_version;
 use crate::yaku::print_yaku;
 use clap::error::ErrorKind;
@@ -104,7 +106,7 @@ fn answer_words<'a, R: Input + Print + Eprint + Files + Clock + Threads + Sync +
         return Err(Failure::Text);
     };
     let progress = progress_of(rt, terminals, &request);
-    let answered = answer_request(rt, notes, &progress, &request);
+    let answered = answer_request(rt, terminals, notes, &progress, &request);
     progress.wipe();
     answered
 }
@@ -129,6 +131,9 @@ fn progress_of<'r, R: Eprint + Clock + Files>(
             is_quiet: false,
             ..
         } if terminals.has_errors => Progress::begin(rt, length_of(rt, *files)),
+        Request::Seats(seats) if terminals.has_errors && !seats.is_quiet => {
+            Progress::begin(rt, None)
+        }
         _ => Progress::none(rt),
     }
 }
@@ -136,6 +141,7 @@ fn progress_of<'r, R: Eprint + Clock + Files>(
 /// Carries out a request.
 fn answer_request<'a, R: Input + Print + Eprint + Files + Clock + Threads + Sync + AllocGlobal>(
     rt: &R,
+    terminals: Terminals,
     notes: &Notes<'a>,
     progress: &Progress<'_, R>,
     request: &Request<'_, 'a>,
@@ -150,8 +156,13 @@ fn answer_request<'a, R: Input + Print + Eprint + Files + Clock + Threads + Sync
         Request::HelpYaku => print_yaku(rt, notes),
         Request::UnknownRules(word) => unknown_rule(rt.alloc(), *word),
         Request::UnknownPlace(word) => Err(Failure::UnknownPlace(*word)),
-        Request::Games { files, manner } => answer_games(rt, notes, *files, *manner),
+        Request::Games { files, manner } => {
+            let is_hinted = is_hinted(*manner, terminals);
+            answer_games(rt, notes, *files, *manner, is_hinted)
+        }
         Request::Need(need) => answer_need(rt, notes, need),
+        Request::Seats(seats) => answer_seats(rt, notes, progress, seats),
+        Request::Standings(asked) => answer_standings(rt, notes, asked),
         Request::Replay(file) => replay_file(rt, notes, *file),
         Request::Score {
             files,

@@ -7,7 +7,9 @@ use clap::Error;
 use clap::error::ErrorKind;
 use desk_lines::DeskFault;
 use desk_score::ScoreFault;
+use desk_standings::{Trouble, Why};
 use riichi_hand::Switch;
+use riichi_seats_text::ListFault;
 use std::alloc::AllocError;
 use std::io::{Eprint, Print};
 
@@ -32,6 +34,24 @@ pub enum Failure<'a> {
         riichi: Option<&'a str>,
         why: NoNeed,
     },
+    /// This file is no list of names.
+    NoList {
+        file: &'a str,
+        fault: ListFault,
+    },
+    /// These words say no rules of a table.
+    NoTableWords(&'a str),
+    /// A game of this file can't stand in a tournament.
+    NoTournament {
+        file: &'a str,
+        trouble: Trouble,
+    },
+    /// This session of a tournament has fewer games than the one before it.
+    FewerTables(u32),
+    /// More sessions than one are wanted by the standings so far.
+    OneSession,
+    /// The games so far don't say their sessions.
+    SessionsUnsaid,
     /// This file can't be opened.
     CannotOpen(&'a str),
     /// Input, output, memory or a thread failed, or there is too much.
@@ -122,7 +142,13 @@ impl Failure<'_> {
             Failure::Text
             | Failure::UnknownRule { .. }
             | Failure::UnknownPlace(_)
-            | Failure::NoNeed { .. } => 2,
+            | Failure::NoNeed { .. }
+            | Failure::NoList { .. }
+            | Failure::NoTableWords(_)
+            | Failure::NoTournament { .. }
+            | Failure::FewerTables(_)
+            | Failure::OneSession
+            | Failure::SessionsUnsaid => 2,
             Failure::CannotOpen(_) => 3,
             Failure::Fault(fault) => fault.status(),
             Failure::Explained(fault) => ScoreFault::from(*fault).status(),
@@ -159,6 +185,74 @@ fn tell_no_need<R: Eprint>(rt: &R, file: &str, name: &str, riichi: &str, why: No
     };
 }
 
+fn tell_unknown_place<R: Eprint>(rt: &R, word: &str) {
+    let _ = eprintln!(rt; "error: a place is 1, 2, 3 or 4, and not `{word}`");
+}
+
+fn tell_no_table_words<R: Eprint>(rt: &R, words: &str) {
+    let _ = eprintln!(rt; "error: --words says no rules of a table: `{words}`");
+}
+
+fn tell_no_list<R: Eprint>(rt: &R, file: &str, fault: ListFault) {
+    let _ = match fault {
+        ListFault::NoName(line) => eprintln!(rt;
+            "riichi_desk: {file}: line {line} is no name: one word of 32 bytes at most, without comma, `=` and `:`"
+        ),
+        ListFault::Twice(line) => eprintln!(rt;
+            "riichi_desk: {file}: the name of line {line} stands on a line before it"
+        ),
+        ListFault::NotFours(names) => eprintln!(rt;
+            "riichi_desk: {file}: each table has four players, and there are {names} names"
+        ),
+        ListFault::TooMany => eprintln!(rt; "riichi_desk: {file}: there are more than 400 names"),
+    };
+}
+
+/// Says which game of a file can't stand in a tournament, and why.
+fn tell_trouble<R: Eprint>(rt: &R, file: &str, trouble: &Trouble) {
+    let (game, line) = (trouble.game, trouble.line);
+    let _ = match &trouble.why {
+        Why::NoGame => eprintln!(rt; "riichi_desk: {file}: there is no game"),
+        Why::Refused => eprintln!(rt;
+            "riichi_desk: {file}: game {game}, line {line}: the line is refused"
+        ),
+        Why::Unfinished => eprintln!(rt;
+            "riichi_desk: {file}: game {game}, line {line}: the game isn't over"
+        ),
+        Why::OtherRules(rule) => {
+            let word = rule.word();
+            eprintln!(rt;
+                "riichi_desk: {file}: game {game}, line {line}: `{word}` isn't as in the first game"
+            )
+        }
+        Why::PlayerTwice(name) => {
+            let name = name.as_str();
+            eprintln!(rt;
+                "riichi_desk: {file}: game {game}, line {line}: `{name}` has had a game in that session"
+            )
+        }
+        Why::SessionUnsaid => eprintln!(rt;
+            "riichi_desk: {file}: game {game}, line {line}: some games say `session=`, and others don't"
+        ),
+        Why::TableTwice => eprintln!(rt;
+            "riichi_desk: {file}: game {game}, line {line}: the table has had a game in that session"
+        ),
+        Why::TooMany => eprintln!(rt;
+            "riichi_desk: {file}: game {game}, line {line}: there are too many players or games"
+        ),
+        Why::Memory => eprintln!(rt; "riichi_desk: {file}: there is no memory"),
+    };
+}
+
+/// Says which session has too few games.
+fn tell_thin<R: Eprint>(rt: &R, session: u32) {
+    let _ = eprintln!(rt; "riichi_desk: session {session} has fewer games than the one before it");
+}
+
+fn say<R: Eprint>(rt: &R, words: &str) {
+    let _ = eprintln!(rt; "{words}");
+}
+
 /// Says on standard error why the program stops, and returns its exit status; 3 where that can't be written either.
 pub fn report<R: Print + Eprint>(rt: &R, failure: &Failure<'_>) -> u8
     ensures { IsReportedBy failure.now result }
@@ -169,20 +263,26 @@ pub fn report<R: Print + Eprint>(rt: &R, failure: &Failure<'_>) -> u8
                 return 3;
             }
         }
-        Failure::Text => {
-            let _ = eprintln!(rt; "error: the words of the command line aren't UTF-8 text");
-        }
+        Failure::Text => say(rt, "error: the words of the command line aren't UTF-8 text"),
         Failure::UnknownRule { word, nearest } => tell_unknown_rule(rt, *word, *nearest),
-        Failure::UnknownPlace(word) => {
-            let word = *word;
-            let _ = eprintln!(rt; "error: a place is 1, 2, 3 or 4, and not `{word}`");
-        }
+        Failure::UnknownPlace(word) => tell_unknown_place(rt, *word),
         Failure::NoNeed {
             file,
             name,
             riichi,
             why,
         } => tell_no_need(rt, *file, *name, riichi.unwrap_or(""), *why),
+        Failure::NoList { file, fault } => tell_no_list(rt, *file, *fault),
+        Failure::NoTableWords(words) => tell_no_table_words(rt, *words),
+        Failure::NoTournament { file, trouble } => tell_trouble(rt, *file, trouble),
+        Failure::FewerTables(session) => tell_thin(rt, *session),
+        Failure::OneSession => say(
+            rt,
+            "error: with --standings one session is seated, and SESSIONS is 1",
+        ),
+        Failure::SessionsUnsaid => {
+            say(rt, "riichi_desk: the games so far don't say `session=`");
+        }
         Failure::CannotOpen(file) => {
             let file = *file;
             let _ = eprintln!(rt; "riichi_desk: cannot open {file}");

@@ -16,10 +16,13 @@ mod lines;
 mod needs;
 mod noted;
 mod opening;
+mod pairing;
 mod progress;
 mod rules;
 mod scoring;
+mod seats;
 mod slips;
+mod standings;
 mod version;
 mod yaku;
 

@@ -2,6 +2,7 @@
 use desk_io::Reached;
 use memchr::memchr_iter;
 use std::cell::Cell;
+use std::fmt::{self, Display};
 use std::io::Eprint;
 use std::time::{Clock, Instant};
 
@@ -16,6 +17,18 @@ const PAUSE: u64 = 200;
 pub struct Terminals {
     pub has_output: bool,
     pub has_errors: bool,
+}
+
+/// How far a search is, in hundredths of the longest.
+#[derive(Drop)]
+struct Searched(u32);
+
+impl Display for Searched {
+    /// As `35 % of the search`.
+    fn fmt<W: fmt::Write>(&self, f: &mut fmt::Formatter<W>) -> fmt::Result {
+        let hundredths = self.0;
+        write!(f, "{hundredths} % of the search")
+    }
 }
 
 /// What was done since when. Times are thousandths of a second since the start.
@@ -79,8 +92,16 @@ impl<'r, R: Eprint + Clock> Progress<'r, R> {
         }
     }
 
+    /// So many hundredths of a search are done.
+    pub fn searched(&self, hundredths: u32) {
+        if let Some(course) = self.course.get() {
+            let millis = course.millis(self.rt);
+            self.show(course, millis, Searched(hundredths));
+        }
+    }
+
     /// Shows what is reached by now, where it is time for it.
-    fn show(&self, mut course: Course, millis: u64, reached: Reached) {
+    fn show<T: Display + Drop>(&self, mut course: Course, millis: u64, reached: T) {
         if millis >= course.next {
             course.next = millis.saturating_add(PAUSE);
             course.is_shown = true;

@@ -11,7 +11,7 @@ use crate::ends::{is_over_with, is_win_or_draw};
 use crate::following::{counters_with, dealer_by, round_by, stays};
 use crate::game::Progress;
 use crate::numbers::{added, are_few, are_kept, few, narrowed, widened};
-use riichi_settle::{as_played, moves_as_played, points_after, sticks_after};
+use riichi_settle::{Moved, as_played, moved_as_played};
 use riichi_table::{ByPlayer, GameState, Outcome, OutcomeFault, TableRules};
 
 /// What follows from an outcome, whether or not a state has room for it.
@@ -34,7 +34,7 @@ impl Consequences {
     {
         let state = &progress.state;
         let played = as_played(rules, outcome);
-        let Moved { points, sticks } = Moved::of(state, rules, outcome, &played);
+        let Moved { points, sticks } = moved(state, rules, outcome, &played);
         Consequences {
             points,
             sticks,
@@ -119,33 +119,19 @@ impl Consequences {
     }
 }
 
-/// The points and the sticks after an outcome.
-struct Moved {
-    points: ByPlayer<i64>,
-    sticks: u16,
-}
-
-impl Moved {
-    /// Those after an outcome that is played so.
-    #[tactic(auto, unfolding(crate::specs::Following::points_after, crate::specs::Following::sticks_after, riichi_settle::specs::Settled::moves_of))]
-    fn of(state: &GameState, rules: &TableRules, outcome: &Outcome, played: &Outcome) -> Moved
-        requires { played.now ≡ as_played rules.now outcome.now }
-        ensures points { result.points ≡ following.points_after state.now rules.now outcome.now }
-        ensures sticks { result.sticks ≡ following.sticks_after state.now rules.now outcome.now }
-    {
-        match outcome {
-            Outcome::Stands { state: written } => Moved {
-                points: written.points.widened(),
-                sticks: u16::from(written.sticks),
-            },
-            _ => {
-                let moves = moves_as_played(state, rules, played);
-                Moved {
-                    points: points_after(&state.points, &moves),
-                    sticks: sticks_after(state.sticks, &moves),
-                }
-            }
-        }
+/// The points and the sticks after an outcome that is played so.
+#[tactic(auto, unfolding(crate::specs::Following::points_after, crate::specs::Following::sticks_after, riichi_settle::specs::Settled::moves_of))]
+fn moved(state: &GameState, rules: &TableRules, outcome: &Outcome, played: &Outcome) -> Moved
+    requires { played.now ≡ as_played rules.now outcome.now }
+    ensures points { result.points ≡ following.points_after state.now rules.now outcome.now }
+    ensures sticks { result.sticks ≡ following.sticks_after state.now rules.now outcome.now }
+{
+    match outcome {
+        Outcome::Stands { state: written } => Moved {
+            points: written.points.widened(),
+            sticks: u16::from(written.sticks),
+        },
+        _ => moved_as_played(state, rules, played),
     }
 }
 

@@ -1,6 +1,6 @@
 //! Why an outcome is refused whatever the table shows, but for its rules.
-ghost use Rattle.std.specs.Prelude.{◌≡◌};
-ghost use Rattle.riichi_table.specs.Players.{by_players};
+ghost use Rattle.std.specs.Prelude.{◌≡◌, ◌&&◌};
+ghost use Rattle.riichi_settle.specs.Winners.{wins_of};
 ghost use Rattle.riichi_game.specs.Line as spec;
 
 use crate::values::is_limits;
@@ -85,37 +85,31 @@ fn is_liable_in(wins: &ByPlayer<Option<Win>>, player: Player) -> bool
         || is_liable_for(wins.fourth, player)
 }
 
-/// The players who are liable for the hand of some winner.
-fn all_liable(wins: &ByPlayer<Option<Win>>) -> ByPlayer<bool>
-    ensures { result ≡ by_players (spec.is_liable_in wins.now) }
-{
-    ByPlayer {
-        first: is_liable_in(wins, Player::First),
-        second: is_liable_in(wins, Player::Second),
-        third: is_liable_in(wins, Player::Third),
-        fourth: is_liable_in(wins, Player::Fourth),
-    }
-}
-
 #[tactic(auto, unfolding(crate::specs::Line::somebody_liable))]
 fn somebody_liable(wins: &ByPlayer<Option<Win>>) -> bool
     ensures { result ≡ spec.somebody_liable wins.now }
 {
-    all_liable(wins).any()
+    is_liable_in(wins, Player::First)
+        || is_liable_in(wins, Player::Second)
+        || is_liable_in(wins, Player::Third)
+        || is_liable_in(wins, Player::Fourth)
+}
+
+/// Whether a player wins and is liable for the hand of some winner.
+fn is_liable_winner(wins: &ByPlayer<Option<Win>>, player: Player) -> bool
+    ensures { result ≡ (wins_of wins.now player && spec.is_liable_in wins.now player) }
+{
+    wins.get(player).is_some() && is_liable_in(wins, player)
 }
 
 #[tactic(auto, unfolding(crate::specs::Line::winner_liable))]
 fn winner_liable(wins: &ByPlayer<Option<Win>>) -> bool
     ensures { result ≡ spec.winner_liable wins.now }
 {
-    let liable = all_liable(wins);
-    let both = ByPlayer {
-        first: wins.first.is_some() && liable.first,
-        second: wins.second.is_some() && liable.second,
-        third: wins.third.is_some() && liable.third,
-        fourth: wins.fourth.is_some() && liable.fourth,
-    };
-    both.any()
+    is_liable_winner(wins, Player::First)
+        || is_liable_winner(wins, Player::Second)
+        || is_liable_winner(wins, Player::Third)
+        || is_liable_winner(wins, Player::Fourth)
 }
 
 fn is_worth(rules: Rules, worth: Worth) -> bool

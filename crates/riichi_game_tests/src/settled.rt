@@ -2,7 +2,7 @@
 use crate::facts::*;
 use riichi_game::{Progress, after_all};
 use riichi_hand::Wind;
-use riichi_settle::{Move, Reason, Taking, as_played, moves_as_played, settle, sticks_after};
+use riichi_settle::{Move, Reason, Taking, changes_by, moves_of, settle};
 use riichi_table::*;
 use std::process::Abort;
 use std::test::Fail;
@@ -63,7 +63,7 @@ fn moves_of_a_win(rt: HostRuntime) {
         wins: ByPlayer::all(None).with(Player::Second, Some(plain(240))),
         riichi: only(Player::Second),
     };
-    let moves = moves_as_played(&before.state, &rules, &as_played(&rules, &outcome));
+    let moves = moves_of(&before.state, &rules, &outcome);
     let wanted = [
         Move::Bet {
             player: Player::Second,
@@ -87,7 +87,7 @@ fn moves_of_a_win(rt: HostRuntime) {
         },
     ];
     assert_eq!(rt; moves.as_slice(), wanted.as_slice());
-    assert_eq!(rt; sticks_after(1, &moves), 0);
+    assert_eq!(rt; changes_by(1, &moves).sticks, 0);
 }
 
 /// The dealer, who has bet, with 1 han 40 fu and the second player with 1 han 30 fu win off the third, with two counters and a

@@ -3,3 +3,4 @@ pub mod TextLemmas
 pub mod ChangeLemmas
 pub mod ListLemmas
 pub mod LongLines
+pub mod PrintableLines

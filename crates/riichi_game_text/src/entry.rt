@@ -14,7 +14,7 @@ use crate::stands::read_stands;
 use crate::won::read_tsumo;
 use crate::words::next_said;
 use riichi_game::Progress;
-use riichi_hand::MOST_LINE;
+use riichi_hand::{MOST_LINE, has_other_byte};
 use riichi_table::{GameState, Outcome, OutcomeFault, TableRules};
 
 /// What an accepted line of a game says, and how far the game has come after it.
@@ -49,12 +49,14 @@ pub fn read_entry(
     }
 }
 
-/// Whether a line is too long, no UTF-8, or has a control byte: so it is refused, whatever it says.
-#[tactic(auto, unfolding(crate::specs::Entries::is_odd))]
+/// Whether a line is too long, no UTF-8, or has a control byte: so it is refused, whatever it says. One of printable ASCII alone,
+/// which is seen in blocks, is neither of the last two.
+#[tactic(auto, using(crate::proofs::PrintableLines::is_no_control, crate::proofs::PrintableLines::is_text), unfolding(crate::specs::Entries::is_odd))]
 pub fn is_odd(line: &[u8]) -> bool
     ensures { result ≡ spec.is_odd line.now }
 {
-    line.len() > MOST_LINE || has_control(line) || text_of(line).is_none()
+    line.len() > MOST_LINE
+        || (has_other_byte(line) && (has_control(line) || text_of(line).is_none()))
 }
 
 fn has_control(line: &[u8]) -> bool

@@ -7,6 +7,7 @@ ghost use Rattle.riichi_game_text.specs.GameLines as spec;
 
 use crate::name::{Names, read_names};
 use crate::table_words::{number_of_word, read_table_rules};
+use crate::words::from_rule_word;
 use riichi_hand::Rules;
 use riichi_table::TableRules;
 
@@ -29,13 +30,14 @@ pub fn read_game(given: Rules, text: &[u8]) -> Option<GameLine>
         × MatchOption result (spec.game_of hand words ≡ None)
         (λ game. spec.game_of hand words ≡ Some (spec.said_by game)) }
 {
-    let rules = read_table_rules(given, text);
+    let said = from_rule_word(text);
+    let rules = read_table_rules(given, said);
     match (read_names(text), rules) {
         (Some(names), Some(rules)) => Some(GameLine {
             names,
             rules,
-            session: number_of_word(text, b"session"),
-            at: number_of_word(text, b"at"),
+            session: number_of_word(said, b"session"),
+            at: number_of_word(said, b"at"),
         }),
         _ => None,
     }

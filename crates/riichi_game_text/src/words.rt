@@ -51,6 +51,20 @@ pub(crate) fn next_rule_word(text: &[u8]) -> Option<(&[u8], &[u8])>
     None
 }
 
+/// A text from its first word with `=` on.
+pub(crate) fn from_rule_word(text: &[u8]) -> &[u8]
+    ensures { spec.rule_words (spec.said_in result.now) ≡ spec.rule_words (spec.said_in text.now) }
+{
+    let mut rest = text;
+    while let Some((word, after)) = next_said(rest) {
+        if has_equals(word) {
+            return rest;
+        }
+        rest = after;
+    }
+    rest
+}
+
 /// The first word without `=`, and all that comes after it.
 pub(crate) fn next_name_word(text: &[u8]) -> Option<(&[u8], &[u8])>
     ensures { MatchOption result (spec.name_words (spec.said_in text.now) ≡ [])

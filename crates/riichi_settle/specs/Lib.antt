@@ -4,4 +4,5 @@ pub mod Prices
 pub mod Wins
 pub mod Draws
 pub mod Settled
+pub mod Totals
 pub mod Laws

@@ -14,10 +14,11 @@ mod moved;
 mod prices;
 mod rons;
 mod settling;
+mod totals;
 mod tsumos;
 mod winning;
 
-pub use making::{moves_as_played, moves_of};
+pub use making::moves_of;
 pub use moved::{MOST_MOVES, Move, Moves, Reason, Taking};
-pub use settling::{Changes, changes_by, points_after, settle, sticks_after};
+pub use settling::{Changes, Moved, changes_by, moved_as_played, settle};
 pub use winning::{as_played, nearest, winners};

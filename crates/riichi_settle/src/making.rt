@@ -16,20 +16,19 @@ use riichi_table::{ByPlayer, GameState, Outcome, TableRules};
 pub fn moves_of(state: &GameState, rules: &TableRules, outcome: &Outcome) -> Moves
     ensures { result.items ≡ spec.moves_of state.now rules.now outcome.now }
 {
-    moves_as_played(state, rules, &as_played(rules, outcome))
-}
-
-/// The same of an outcome as it is played under the rules, which [`as_played`] gives.
-pub fn moves_as_played(state: &GameState, rules: &TableRules, played: &Outcome) -> Moves
-    ensures { result.items ≡ spec.moves_as_played state.now rules.now played.now }
-{
     let mut moves = ArrayVec::new();
-    push_played(&mut moves, state, rules, played);
+    push_played(&mut moves, state, rules, &as_played(rules, outcome));
     moves
 }
 
+/// Puts what an outcome moves that is played so into an empty list.
 #[tactic(auto, unfolding(crate::specs::Settled::moves_as_played))]
-fn push_played(moves: &mut Moves, state: &GameState, rules: &TableRules, outcome: &Outcome)
+pub(crate) fn push_played(
+    moves: &mut Moves,
+    state: &GameState,
+    rules: &TableRules,
+    outcome: &Outcome,
+)
     requires { moves.old.items ≡ [] }
     ensures { moves.new.items ≡ spec.moves_as_played state.now rules.now outcome.now }
 {

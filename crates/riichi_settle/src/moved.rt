@@ -39,16 +39,16 @@ pub enum Taking {
 /// Something that is moved.
 #[derive(Clone, Copy, Debug, PartialEq, Eq)]
 pub enum Move {
+    /// 1000 points of a player to the table, as a riichi stick.
+    Bet {
+        player: Player,
+    },
     /// Points, from one player to another.
     Points {
         from: Player,
         to: Player,
         points: u32,
         why: Reason,
-    },
-    /// 1000 points of a player to the table, as a riichi stick.
-    Bet {
-        player: Player,
     },
     /// Sticks from the table to a player, of 1000 points each.
     Sticks {
@@ -58,7 +58,7 @@ pub enum Move {
     },
 }
 
-/// What fills the places of a list that no move has taken.
+/// What fills the places of a list that no move has taken: as the first of all values it is made of zero bytes.
 impl Default for Move {
     ghost use Rattle.riichi_settle.specs.declared.moved.Move.TheVariants.{Bet};
     ghost use Rattle.riichi_table.specs.declared.player.Player.TheVariants.{First};

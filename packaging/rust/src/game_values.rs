@@ -228,6 +228,28 @@ impl Fault {
     ];
 }
 
+impl fmt::Display for Fault {
+    fn fmt(&self, to: &mut fmt::Formatter<'_>) -> fmt::Result {
+        to.write_str(match self {
+            Fault::NobodyWins => "nobody wins",
+            Fault::DiscarderWins => "discarder wins",
+            Fault::WinnerLiable => "winner liable",
+            Fault::NoSuchWorth => "no such worth",
+            Fault::LiableLimits => "liable limits",
+            Fault::LiableOff => "liable off",
+            Fault::NagashiOff => "nagashi off",
+            Fault::BetOfTooFew => "bet of too few",
+            Fault::NotReady => "not ready",
+            Fault::StandsSum => "stands sum",
+            Fault::StandsRound => "stands round",
+            Fault::OverCounters => "over counters",
+            Fault::OverSticks => "over sticks",
+            Fault::OverPoints => "over points",
+            Fault::GameOver => "game over",
+        })
+    }
+}
+
 /// Why a game refuses something; it is as it was.
 #[derive(Clone, Copy, Debug, PartialEq, Eq, Hash)]
 pub enum Refused {
@@ -247,7 +269,7 @@ pub enum Refused {
 impl fmt::Display for Refused {
     fn fmt(&self, to: &mut fmt::Formatter<'_>) -> fmt::Result {
         match self {
-            Refused::Outcome(fault) => write!(to, "refused: {fault:?}"),
+            Refused::Outcome(fault) => write!(to, "refused: {fault}"),
             Refused::Twice(player) => write!(to, "{player:?} wins twice"),
             Refused::NoYaku => write!(to, "the hand has no yaku"),
             Refused::NoWin => write!(to, "the hand is no win"),
@@ -261,7 +283,14 @@ impl Error for Refused {}
 
 impl fmt::Display for RulesFault {
     fn fmt(&self, to: &mut fmt::Formatter<'_>) -> fmt::Result {
-        write!(to, "no table may have these rules: {self:?}")
+        to.write_str(match self {
+            RulesFault::Points => "points are whole hundreds up to 1000000",
+            RulesFault::Start => "a start is 100 points at least",
+            RulesFault::Return => "the return is not fewer than the start",
+            RulesFault::UmaStep => "a bonus is whole thousands, up to 1000000 either way",
+            RulesFault::UmaOrder => "no bonus is greater than the one before it",
+            RulesFault::UmaSum => "the bonuses add up to 0",
+        })
     }
 }
 

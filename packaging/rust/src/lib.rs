@@ -10,6 +10,22 @@
 //! }
 //! ```
 //!
+//! As values, whose words are enums; what is refused is an [`Error`]:
+//!
+//! ```
+//! use riichi_desk::{value, Answer, Error, Key, Payment, Rules};
+//! # fn main() -> Result<(), Error> {
+//! match value("win 99978m444p567s22s on=9m by=ron seat=S round=E riichi=1", Rules::One)? {
+//!     Some(Answer::Won(won)) => assert_eq!((won.han, won.fu, won.payment), (1, 50, Payment::Discarder(1600))),
+//!     other => println!("{other:?}"),
+//! }
+//! let refused = value("win 234m567m345p67s99s on=5s by=ron seat=s round=E", Rules::One).unwrap_err();
+//! assert_eq!(refused.key, Some(Key::Seat));
+//! assert_eq!(Error::from(refused).to_string(), "refused H4: seat: a seat is E, S, W or N");
+//! # Ok(())
+//! # }
+//! ```
+//!
 //! Many hands without text are answered by [`arrays`]. The module [`mod@game`] keeps the ledger of a game of four, and the function
 //! [`game()`] answers a text of games.
 //!
@@ -18,12 +34,17 @@ use std::str;
 
 pub mod arrays;
 mod calls;
+mod error;
 pub mod game;
 mod game_rows;
 mod game_values;
+mod json;
 mod rules;
+mod values;
 
+pub use error::Error;
 pub use rules::{House, Rules, RulesFault};
+pub use values::{Accepted, Answer, Code, Key, Kind, Limit, NoKind, Payment, Refused, Won, Yaku};
 
 type Call = unsafe extern "C" fn(u32, *const u8, usize, *mut u8, usize) -> usize;
 type CallOfLines = unsafe extern "C" fn(u32, *const u8, usize, *mut u8, usize, *mut usize) -> usize;
@@ -52,6 +73,11 @@ impl Room {
         Some(self.told(calls::riichi_json, line.as_ref(), rules)).filter(|it| !it.is_empty())
     }
 
+    /// The same answer as a value.
+    pub fn value(&mut self, line: impl AsRef<[u8]>, rules: Rules) -> Result<Option<Answer>, Refused> {
+        self.json(line, rules).map(values::read).transpose()
+    }
+
     /// The same object, of a win with the member `why` at its end: why it is answered so.
     pub fn explain_json(&mut self, line: impl AsRef<[u8]>, rules: Rules) -> Option<&str> {
         Some(self.told(calls::riichi_explain_json, line.as_ref(), rules)).filter(|it| !it.is_empty())
@@ -77,6 +103,17 @@ pub fn answer(line: impl AsRef<[u8]>, rules: Rules) -> Option<String> {
 /// The same answer as one object of JSON.
 pub fn json(line: impl AsRef<[u8]>, rules: Rules) -> Option<String> {
     Room::new().json(line, rules).map(str::to_owned)
+}
+
+/// The same answer as a value; `None` where the line is a comment or blank.
+///
+/// ```
+/// use riichi_desk::{value, Answer, Kind, Rules};
+/// let ready = value("waits 123456789m1134p", Rules::One).unwrap();
+/// assert_eq!(ready, Some(Answer::Waits(vec!["2p".parse().unwrap(), "5p".parse().unwrap()])));
+/// ```
+pub fn value(line: impl AsRef<[u8]>, rules: Rules) -> Result<Option<Answer>, Refused> {
+    Room::new().value(line, rules)
 }
 
 /// The same object, of a win with the member `why` at its end: why it is answered so.

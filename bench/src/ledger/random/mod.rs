@@ -2,10 +2,12 @@
 mod hands;
 mod lines;
 mod tables;
+mod tournament;
 
 use super::game::{Desk, Game};
 use crate::input::Dice;
 use lines::Maker;
+pub use tournament::tournament;
 
 fn one_in(dice: &mut Dice, number: usize) -> bool {
     dice.below(number) == 0

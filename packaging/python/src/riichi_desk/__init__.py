@@ -1,7 +1,8 @@
 """What a hand of riichi mahjong is worth and why, its waits, and how far it is from a win. The answers are proved.
 
-One line a call: `text`, `answer`, `json`, `explain`, `why`. Many: `texts`, `answers`, `lines`. Many hands without text: `shanten`,
-`shapes`, `discards`, `waits`, over buffers of counts; many wins: `wins`. A game of four, deal by deal: `Game`; as a text: `game`.
+By keywords: `win`, `waits`, `shape`. One line a call: `text`, `answer`, `json`, `explain`, `why`, `hint`. Many: `texts`, `jsons`,
+`answers`, `lines`, `json_lines`. Many hands without text: `shanten`, `shapes`, `discards`, `waits`, over buffers of counts; many wins:
+`wins`. A game of four, deal by deal: `Game`; as a text: `game`. Names of tiles elsewhere: `tiles`.
 The package has the shared library inside; RIICHI_DESK in the environment names another one.
 """
 
@@ -9,28 +10,109 @@ from __future__ import annotations
 
 import ctypes
 
-from .arrays import NO_HAND, NO_WAITS, Discards, Shapes, ankan, chi, discards, kan, pon, shanten, shapes, waits
+from . import tiles
+from .arrays import NO_HAND, NO_WAITS, Discards, Shapes, ankan, chi, discards, kan, pon, shanten, shapes
 from .game_values import Abort, Chombo, Draw, End, Fault, Final, HandRefused, HanFu, Liable, LimitHand, Move, Need, Needs, Outcome
 from .game_values import OutcomeRefused, Paid, Penalty, Ron, RulesRefused, Stands, State, TableRules, Tsumo, Value, Yakuman
 from .games import game
-from .ledger import Game, table
+from .hints import Hint, hint
+from .ledger import Game
 from .library import CALLS, ROOMS
-from .records import answer, answers, explain, json, lines, text, texts, why
-from .rules import Rules
-from .values import Accepted, Answer, NoWin, NoYaku, Refused, Shape, Table, Waits, Won, Yaku
+from .many import answers, json_lines, jsons, lines, texts
+from .questions import KeywordRefused, line, shape, waits, win
+from .records import answer, explain, json, text, why
+from .rules import Profile, Rules
 from .scores import NO_WIN, NO_YAKU, WON, Score, Win, wins
+from .tables import table
+from .told import Table
+from .values import Accepted, Answer, NoWin, NoYaku, Refused, Shape, Waits, Won, Yaku
+from .words import By, Flag, Job, Key, Limit, Riichi, Wind
 
+# (each name as it stands: type checkers read this list as a text)
 __all__ = [
-    *["Accepted", "Answer", "NoWin", "NoYaku", "Refused", "Rules", "Shape", "Table", "Waits", "Won", "Yaku"],
-    *["answer", "answers", "explain", "json", "lines", "text", "texts", "version", "why"],
-    *["NO_HAND", "NO_WAITS", "Discards", "Shapes", "discards", "shanten", "shapes", "waits"],
-    *["ankan", "chi", "kan", "pon"],
-    *["NO_WIN", "NO_YAKU", "WON", "Score", "Win", "wins"],
-    *["Game", "TableRules", "State", "game", "table"],
-    *["Abort", "Chombo", "Draw", "End", "Outcome", "Penalty", "Ron", "Stands", "Tsumo"],
-    *["HanFu", "Liable", "LimitHand", "Value", "Yakuman"],
-    *["Final", "Move", "Need", "Needs", "Paid"],
-    *["Fault", "HandRefused", "OutcomeRefused", "RulesRefused"],
+    "NO_HAND",
+    "NO_WAITS",
+    "NO_WIN",
+    "NO_YAKU",
+    "WON",
+    "Abort",
+    "Accepted",
+    "Answer",
+    "By",
+    "Chombo",
+    "Discards",
+    "Draw",
+    "End",
+    "Fault",
+    "Final",
+    "Flag",
+    "Game",
+    "HanFu",
+    "HandRefused",
+    "Hint",
+    "Job",
+    "Key",
+    "KeywordRefused",
+    "Liable",
+    "Limit",
+    "LimitHand",
+    "Move",
+    "Need",
+    "Needs",
+    "NoWin",
+    "NoYaku",
+    "Outcome",
+    "OutcomeRefused",
+    "Paid",
+    "Penalty",
+    "Profile",
+    "Refused",
+    "Riichi",
+    "Ron",
+    "Rules",
+    "RulesRefused",
+    "Score",
+    "Shape",
+    "Shapes",
+    "Stands",
+    "State",
+    "Table",
+    "TableRules",
+    "Tsumo",
+    "Value",
+    "Waits",
+    "Win",
+    "Wind",
+    "Won",
+    "Yaku",
+    "Yakuman",
+    "ankan",
+    "answer",
+    "answers",
+    "chi",
+    "discards",
+    "explain",
+    "game",
+    "hint",
+    "json",
+    "json_lines",
+    "jsons",
+    "kan",
+    "line",
+    "lines",
+    "pon",
+    "shanten",
+    "shape",
+    "shapes",
+    "table",
+    "text",
+    "texts",
+    "tiles",
+    "version",
+    "waits",
+    "why",
+    "win",
+    "wins",
 ]
 
 
@@ -38,3 +120,6 @@ def version() -> str:
     """The name and version of the library."""
     room = ROOMS.room
     return ctypes.string_at(room, CALLS.riichi_version(room, 64)).decode("ascii")
+
+
+__version__ = version().rpartition(" ")[2]

@@ -1,10 +1,10 @@
 """Many hands a call, as arrays, without text: shanten, accepted kinds, discards and waits.
 
-A hand is 34 bytes, the counts of the kinds 1m to 9m, 1p to 9p, 1s to 9s, East, South, West, North, white, green, red; so the kind
-of 2p is 10, and bit 10 of a set of kinds says that 2p is in it. Hands lie one behind the other in any buffer of bytes: bytes, a
-bytearray, a memoryview, an array of numpy (uint8, C-contiguous). A buffer that can be written to is lent to the library as it is,
-and so are bytes; another one that can't be written to is copied. Columns come back as views, which `numpy.asarray` takes without
-a copy. Other threads run during a call.
+A hand is 34 counts, those of the kinds 1m to 9m, 1p to 9p, 1s to 9s, East, South, West, North, white, green, red; so the kind of 2p
+is 10, and bit 10 of a set of kinds says that 2p is in it. Hands lie one behind the other in any buffer of integers: bytes, a
+bytearray, a memoryview, an array of any integer type (`array`, numpy), whatever its strides. Bytes are lent to the library as they
+are, and so is a buffer of bytes without gaps that can be written to; another one is copied. Columns come back as views, which
+`numpy.asarray` takes without a copy. Other threads run during a call.
 """
 
 from __future__ import annotations
@@ -12,6 +12,7 @@ from __future__ import annotations
 import ctypes
 from typing import TYPE_CHECKING, Any, NamedTuple
 
+from .buffers import NOTHING, lend
 from .library import CALLS
 
 if TYPE_CHECKING:
@@ -22,8 +23,6 @@ NO_HAND = -128
 """The shanten of a row that is no hand: a count above four, no meld, another number of tiles, a fifth tile of a kind."""
 NO_WAITS = 2**64 - 1
 """The waits of such a row."""
-
-_NOTHING = b"\0" * 8
 
 
 class Shapes(NamedTuple):
@@ -70,27 +69,10 @@ def ankan(kind: int) -> int:
     return 193 + kind
 
 
-def lend(given: Buffer | None, width: int, hands: int | None = None, size: int = 1) -> tuple[Any, int]:
-    """What a call is given of a buffer with rows of so many bytes, which may be items of this size, and how many rows these are."""
-    if given is None:
-        return _NOTHING, 0
-    view = memoryview(given)
-    if view.itemsize not in (1, size) or not view.c_contiguous or view.nbytes % width:
-        raise ValueError(f"not rows of {width} bytes, one behind the other")
-    rows = view.nbytes // width
-    if hands is not None and rows != hands:
-        raise ValueError(f"{rows} rows beside {hands} hands")
-    if rows == 0:
-        return _NOTHING, 0
-    if view.readonly:
-        return given if isinstance(given, bytes) else bytes(view), rows
-    return ctypes.byref(ctypes.c_char.from_buffer(view)), rows
-
-
 def _column(letter: str, size: int, hands: int, width: int = 1) -> tuple[Any, memoryview]:
     """A column to be filled, as a call is given it and as a view."""
     if hands == 0:
-        return _NOTHING, memoryview(b"").cast(letter)
+        return NOTHING, memoryview(b"").cast(letter)
     room = bytearray(size * width * hands)
     shape = [hands] if width == 1 else [hands, width]
     return ctypes.byref(ctypes.c_char.from_buffer(room)), memoryview(room).cast(letter, shape)

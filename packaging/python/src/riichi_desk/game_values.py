@@ -8,6 +8,8 @@ from typing import Literal, Optional, Union
 
 from .rules import Profile
 from .scores import Win
+from .values import Won
+from .words import Limit
 
 Points = tuple[int, int, int, int]
 """Points of each player, by the first seats."""
@@ -73,16 +75,31 @@ class Yakuman:
 
 
 @dataclass(frozen=True)
+class Paid:
+    """A row of the table of payments: what each pays, with the counters, and the hands that are paid so."""
+
+    base: int
+    discarder: int
+    dealer: int
+    other: int
+    hands: tuple[HanFu, ...]
+    """With four han at most."""
+    limit: Optional[Limit]
+    """The limit hand, as `mangan`, where it is one."""
+
+
+@dataclass(frozen=True)
 class Liable:
     """A yakuman, as such or as a hand, that a player is liable for, or for so many of its limits."""
 
-    value: Union[HanFu, LimitHand, Yakuman, Win]
+    value: Union[HanFu, LimitHand, Yakuman, Win, Won, Paid]
     player: int
     limits: int = 1
 
 
-Value = Union[HanFu, LimitHand, Yakuman, Win, Liable]
-"""What a player wins; of a `Win`, its seat, round, counters and sticks are those of the game."""
+Value = Union[HanFu, LimitHand, Yakuman, Win, Won, Paid, Liable]
+"""What a player wins; of a `Win`, its seat, round, counters and sticks are those of the game. A `Won` is worth what it tells, and a
+`Paid` what a `Need` names."""
 
 
 @dataclass(frozen=True)
@@ -191,6 +208,10 @@ class RulesRefused(ValueError):
     """Rules that no table may choose."""
 
 
+Why = Literal["ron", "tsumo", "liable", "other half", "counters", "ready", "nagashi", "chombo", "bet", "sticks", "own bet"]
+"""For what something is moved."""
+
+
 @dataclass(frozen=True)
 class Move:
     """Something that is moved: points from a player to another, or sticks, of 1000 points each, to the table or from it."""
@@ -200,8 +221,7 @@ class Move:
     taker: Optional[int]
     points: int
     sticks: int
-    why: str
-    """`ron`, `tsumo`, `liable`, `other half`, `counters`, `ready`, `nagashi`, `chombo`, `bet`, `sticks` or `own bet`."""
+    why: Why
 
 
 @dataclass(frozen=True)
@@ -215,20 +235,6 @@ class Final:
     penalty: int
     total: int
     """The final points."""
-
-
-@dataclass(frozen=True)
-class Paid:
-    """A row of the table of payments: what each pays, with the counters, and the hands that are paid so."""
-
-    base: int
-    discarder: int
-    dealer: int
-    other: int
-    hands: tuple[HanFu, ...]
-    """With four han at most."""
-    limit: Optional[str]
-    """The limit hand, as `mangan`, where it is one."""
 
 
 @dataclass(frozen=True)

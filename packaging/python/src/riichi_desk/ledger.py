@@ -8,10 +8,10 @@ from __future__ import annotations
 
 import ctypes
 from collections.abc import Iterable
-from typing import Any, Optional
+from typing import Optional
 
 from .game_rows import NOTHING, ChangesRow, FinalRow, MoveRow, NeedRow, NeedsRow, OutcomeRow, PaidRow, ProgressRow, QuestionRow
-from .game_rows import StateRow, TableRow, WorthRow
+from .game_rows import StateRow, WorthRow
 from .game_values import (
     Abort,
     Chombo,
@@ -32,88 +32,32 @@ from .game_values import (
     Penalty,
     Points,
     Ron,
-    RulesRefused,
     Stands,
     State,
     TableRules,
     Tsumo,
     Value,
+    Why,
     Yakuman,
 )
 from .library import CALLS
-from .rules import rules_of
 from .scores import NO_WIN, NO_YAKU, WON
+from .tables import points_of, table_row, within
+from .values import Won
+from .words import Limit
 
-_NAMES = {"club": 1, "league": 2, "online": 3}
 _ROUNDS = ("east", "south", "west", "north")
-_CHOICES = {
-    "ties": ("share", "seat"),
-    "ron": ("all", "nearest", "two"),
-    "counters": ("nearest", "each"),
-    "sticks": ("nearest", "own"),
-    "renchan": ("ready", "win"),
-    "length": ("south", "east"),
-    "left": ("first", "lost"),
-}
-_FLAGS = ("liable", "nagashi", "bust", "stop")
-_RULES_FAULTS = (
-    "points are whole hundreds up to 1000000",
-    "a start is 100 points at least",
-    "the return is not fewer than the start",
-    "a bonus is whole thousands, up to 1000000 either way",
-    "no bonus is greater than the one before it",
-    "the bonuses add up to 0",
-)
-_WHY = ("ron", "tsumo", "liable", "other half", "counters", "ready", "nagashi", "chombo", "bet", "sticks", "own bet")
+_WHY: tuple[Why, ...] = ("ron", "tsumo", "liable", "other half", "counters", "ready", "nagashi", "chombo", "bet", "sticks", "own bet")
 _FU = (20, 25, *range(30, 150, 10))
 _RON, _TSUMO = 0, 1
 _MOST_MOVES = 40
+_LIMITS: dict[int, Limit] = {2000: "mangan", 3000: "haneman", 4000: "baiman", 6000: "sanbaiman", 8000: "yakuman"}
+_YAKUMAN = 8000
 _NO_BASE = 65535  # base points that no hand has: so such a win is refused in its turn
 
 
-def table(name: str) -> TableRules:
-    """The rules of a name: `club`, `league` or `online`."""
-    row = TableRow()
-    if CALLS.riichi_game_table(_NAMES.get(name, 0), ctypes.byref(row)):
-        raise RulesRefused(f"a table is club, league or online, and not {name}")
-    words: dict[str, Any] = {word: getattr(row, word) for word in ("rules", "start", "returns")}
-    words |= {word: values[getattr(row, word)] for word, values in _CHOICES.items()}
-    words |= {word: bool(getattr(row, word)) for word in _FLAGS}
-    words["uma"] = _points_of(row.uma)
-    words["extra"] = None if row.extra == NOTHING else row.extra
-    words["chombo"] = "mangan" if row.chombo == NOTHING else row.chombo
-    return TableRules(**words)
-
-
-def _within(number: int, most: int, what: str) -> int:
-    if not 0 <= number <= most:
-        raise ValueError(f"{what} is 0 to {most}, and not {number}")
-    return number
-
-
-def _table_row(rules: TableRules) -> TableRow:
-    row = TableRow(rules=rules_of(rules.rules))
-    for word in ("start", "returns", "extra", "chombo"):
-        points = getattr(rules, word)
-        setattr(row, word, NOTHING if points in (None, "mangan") else _within(points, NOTHING - 1, word))
-    for place, bonus in enumerate(rules.uma):
-        if abs(bonus) >= 1 << 31:
-            raise RulesRefused(_RULES_FAULTS[3])
-        row.uma[place] = bonus
-    for word, values in _CHOICES.items():
-        if getattr(rules, word) not in values:
-            raise RulesRefused(f"{word} is one of {', '.join(values)}, and not {getattr(rules, word)}")
-        setattr(row, word, values.index(getattr(rules, word)))
-    for word in _FLAGS:
-        setattr(row, word, bool(getattr(rules, word)))
-    fault = CALLS.riichi_game_table_fault(ctypes.byref(row))
-    if fault:
-        raise RulesRefused(_RULES_FAULTS[fault - 1])
-    return row
-
-
 def _player(number: int) -> int:
-    return _within(number, 3, "a player")
+    return within(number, 3, "a player")
 
 
 def _flag(flags: ctypes.Array[ctypes.c_uint8], players: Iterable[int]) -> None:
@@ -121,20 +65,15 @@ def _flag(flags: ctypes.Array[ctypes.c_uint8], players: Iterable[int]) -> None:
         flags[_player(player)] = 1
 
 
-def _points_of(row: Iterable[int]) -> Points:
-    first, second, third, fourth = row
-    return first, second, third, fourth
-
-
 def _state_of(row: StateRow) -> State:
-    return State(_points_of(row.points), _ROUNDS[row.round], row.dealer, row.counters, row.sticks)  # type: ignore[arg-type]
+    return State(points_of(row.points), _ROUNDS[row.round], row.dealer, row.counters, row.sticks)  # type: ignore[arg-type]
 
 
 def _write_state(row: StateRow, state: State) -> None:
     for player, points in enumerate(state.points):
-        row.points[player] = points if abs(points) < 1 << 31 else _within(points, (1 << 31) - 1, "a number of points")
+        row.points[player] = points if abs(points) < 1 << 31 else within(points, (1 << 31) - 1, "a number of points")
     row.round, row.dealer = _ROUNDS.index(state.round), _player(state.dealer)
-    row.counters, row.sticks = (_within(it, 255, "a number of counters or sticks") for it in (state.counters, state.sticks))
+    row.counters, row.sticks = (within(it, 255, "a number of counters or sticks") for it in (state.counters, state.sticks))
 
 
 class Game:
@@ -153,7 +92,7 @@ class Game:
 
     def __init__(self, rules: Optional[TableRules] = None) -> None:
         self.rules = TableRules() if rules is None else rules
-        self._table = _table_row(self.rules)
+        self._table = table_row(self.rules)
         first = ProgressRow()
         CALLS.riichi_game_first(ctypes.byref(self._table), ctypes.byref(first))
         self._progress = [first]
@@ -201,7 +140,7 @@ class Game:
     @property
     def penalties(self) -> Points:
         """The points off the final points of each player, those for dead hands with them."""
-        return _points_of(self._last.penalties)
+        return points_of(self._last.penalties)
 
     @property
     def changes(self) -> Points:
@@ -209,7 +148,7 @@ class Game:
         if not self._outcomes:
             return 0, 0, 0, 0
         before, after = (it.state.points for it in self._progress[-2:])
-        return _points_of(now - then for now, then in zip(after, before))
+        return points_of(now - then for now, then in zip(after, before))
 
     @property
     def moves(self) -> tuple[Move, ...]:
@@ -247,8 +186,7 @@ class Game:
         if row.base == 0:
             return None
         hands = (HanFu(han, fu) for han in range(1, 5) for fu in _FU if self._base(by, han, fu) == row.base)
-        names = {8000: "yakuman", **{it.value: it.name.lower() for it in LimitHand}}
-        return Paid(row.base, row.discarder, row.dealer, row.other, tuple(hands), names.get(row.base))
+        return Paid(row.base, row.discarder, row.dealer, row.other, tuple(hands), _LIMITS.get(row.base))
 
     def _base(self, by: int, han: int, fu: int) -> int:
         told: int = CALLS.riichi_game_base(self._table.rules, by, han, fu)
@@ -276,7 +214,7 @@ class Game:
         elif isinstance(outcome, Chombo):
             row.kind, row.player = 4, _player(outcome.player)
         elif isinstance(outcome, Penalty):
-            row.kind, row.player, row.points = 5, _player(outcome.player), _within(outcome.points, NOTHING, "a penalty")
+            row.kind, row.player, row.points = 5, _player(outcome.player), within(outcome.points, NOTHING, "a penalty")
         elif isinstance(outcome, Stands):
             row.kind = 6
             _write_state(row.state, outcome.state)
@@ -290,14 +228,18 @@ class Game:
         """Puts what a player wins into its row."""
         if isinstance(value, Liable):
             self._write_worth(row, winner, by, value.value)
-            row.liable, row.liable_limits = 1 + _player(value.player), _within(value.limits, 255, "a number of limits")
+            row.liable, row.liable_limits = 1 + _player(value.player), within(value.limits, 255, "a number of limits")
         elif isinstance(value, Yakuman):
-            row.kind, row.limits = 2, _within(value.limits, 255, "a number of limits")
+            row.kind, row.limits = 2, within(value.limits, 255, "a number of limits")
         elif isinstance(value, HanFu):
-            han, fu = (_within(it, 255, "a number of han or fu") for it in (value.han, value.fu))
+            han, fu = (within(it, 255, "a number of han or fu") for it in (value.han, value.fu))
             row.kind, row.base = 1, self._base(by, han, fu) or _NO_BASE
         elif isinstance(value, LimitHand):
             row.kind, row.base = 1, value.value
+        elif isinstance(value, Won) and value.yakuman:
+            row.kind, row.limits = 2, value.base // _YAKUMAN
+        elif isinstance(value, (Won, Paid)):
+            row.kind, row.base = 1, value.base
         else:
             self._write_hand(row, winner, by, value)
 

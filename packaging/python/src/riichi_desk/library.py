@@ -60,7 +60,12 @@ ROOMS = _Rooms()
 
 def encoded(text: Line) -> bytes:
     """The bytes of a line or a text, as they are given."""
-    return text.encode("utf-8", "surrogateescape") if isinstance(text, str) else bytes(memoryview(text))
+    if isinstance(text, str):
+        return text.encode("utf-8", "surrogateescape")
+    try:
+        return bytes(memoryview(text))
+    except TypeError:
+        raise TypeError(f"a line is a str or bytes, and not {type(text).__name__}") from None
 
 
 def raw_bytes_of(line: Line) -> bytes:

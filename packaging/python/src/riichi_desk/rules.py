@@ -28,6 +28,16 @@ class Rules:
     ura: bool = True
     blessing_of_man: bool = False
 
+    @classmethod
+    def parse(cls, text: str) -> Rules:
+        """The rules of a text, as answers and the option --rules have them; a `ValueError` says where it names none.
+
+        >>> Rules.parse("1+red-fives-ura") == Rules(red_fives=True, ura=False)
+        True
+        """
+        number = _read(text)
+        return cls(*(bool(number >> place & 1) for place in range(len(fields(cls)))))
+
     def number(self) -> int:
         """The number that the library takes."""
         signs = ("+" if getattr(self, rule.name) else "-" for rule in fields(self))

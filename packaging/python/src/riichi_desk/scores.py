@@ -9,7 +9,7 @@ from __future__ import annotations
 import ctypes
 from typing import TYPE_CHECKING
 
-from .arrays import lend
+from .buffers import lend
 from .library import CALLS
 from .rules import Profile, rules_of
 

@@ -2,36 +2,16 @@
 
 from __future__ import annotations
 
-import json
-from collections.abc import Iterator, Mapping
-from dataclasses import dataclass
-from typing import Any, TypeVar, Union
+from dataclasses import dataclass, field
+from functools import lru_cache
+from typing import Any, Optional, Union, cast
 
-V = TypeVar("V")
+from .told import Table, Told, object_of, unread
+from .words import WINDS, Key, Limit, Wind
 
 
-class Table(Mapping[str, V]):
-    """A mapping that is never changed, so it can be hashed. It equals each mapping with the same items."""
-
-    __slots__ = ("_items",)
-
-    def __init__(self, items: Mapping[str, V]) -> None:
-        self._items = dict(items)
-
-    def __getitem__(self, key: str) -> V:
-        return self._items[key]
-
-    def __iter__(self) -> Iterator[str]:
-        return iter(self._items)
-
-    def __len__(self) -> int:
-        return len(self._items)
-
-    def __hash__(self) -> int:
-        return hash(frozenset(self._items.items()))
-
-    def __repr__(self) -> str:
-        return repr(self._items)
+def _none() -> None:
+    return None
 
 
 @dataclass(frozen=True)
@@ -43,8 +23,21 @@ class Yaku:
     japanese: str
 
 
+@lru_cache(maxsize=4096)
+def _yaku_of(rest: str) -> tuple[tuple[Yaku, ...], Optional[str]]:
+    """The yaku and the rules of a win, of what its object has from these on. Few lists of yaku stand in many answers."""
+    told = object_of(f'{{"yaku":{rest}')
+    return tuple(Yaku(it["number"], it["word"], it["japanese"]) for it in told["yaku"]), told.get("rules")
+
+
+@lru_cache(maxsize=4096)
+def _payment_of(*paid: tuple[str, int]) -> Table[int]:
+    """What each payer pays, once for all wins that are paid so."""
+    return Table(dict(paid))
+
+
 @dataclass(frozen=True)
-class Won:
+class Won(Told):
     """What a win is worth. Of a yakuman `han`, `fu` and `dora` are 0."""
 
     yakuman: bool
@@ -52,34 +45,73 @@ class Won:
     fu: int
     dora: int
     base: int
-    limit: str | None
+    limit: Limit | None
     payment: Table[int]
     """What each payer pays: `discarder`, or `dealer` and `each_other`, or `each`."""
     gain: int
     yaku: tuple[Yaku, ...]
-    rules: str | None = None
+    rules: str | None = field(default_factory=_none)
     """The rules of a house, as `1+red-fives`; none under a profile."""
 
+    @classmethod
+    def _read(cls, text: str) -> dict[str, Any]:
+        front, _, rest = text.partition(',"yaku":')
+        fields = object_of(front + "}")
+        del fields["answer"]
+        fields["payment"] = _payment_of(*fields["payment"].items())
+        fields["yaku"], fields["rules"] = _yaku_of(rest)
+        return fields
+
+    def payments(self, winner: Wind, discarder: Wind | None = None) -> Table[int]:
+        """What each other seat pays to a winner with this seat: for a win by ron the discarder alone, who has to be named.
+
+        >>> won = Won(False, 2, 20, 0, 320, None, Table({"dealer": 700, "each_other": 400}), 1500, ())
+        >>> won.payments("S")
+        {'E': 700, 'W': 400, 'N': 400}
+        """
+        others = [wind for wind in WINDS if wind != winner]
+        if "discarder" in self.payment:
+            if discarder not in others:
+                raise ValueError(f"the discarder is one of {', '.join(others)}, and not {discarder}")
+            return Table({wind: self.payment["discarder"] if wind == discarder else 0 for wind in others})
+        is_dealer = winner == "E"
+        if discarder is not None or is_dealer != ("each" in self.payment):
+            raise ValueError(f"nobody pays {self.payment} to {winner} for a discard of {discarder}")
+        payers = {wind: "each" if is_dealer else "dealer" if wind == "E" else "each_other" for wind in others}
+        return Table({wind: self.payment[payer] for wind, payer in payers.items()})
+
+
+class _Unworthy(Told):
+    """What is worth nothing."""
+
+    @classmethod
+    def _fields(cls, told: dict[str, Any]) -> dict[str, Any]:
+        return {"rules": told.get("rules")}
+
 
 @dataclass(frozen=True)
-class NoYaku:
+class NoYaku(_Unworthy):
     """The tiles are a win, and have no yaku under these rules."""
 
-    rules: str | None = None
+    rules: str | None = field(default_factory=_none)
 
 
 @dataclass(frozen=True)
-class NoWin:
+class NoWin(_Unworthy):
     """The tiles are no win."""
 
-    rules: str | None = None
+    rules: str | None = field(default_factory=_none)
 
 
 @dataclass(frozen=True)
-class Waits:
+class Waits(Told):
     """The kinds that complete a hand."""
 
     kinds: tuple[str, ...]
+
+    @classmethod
+    def _fields(cls, told: dict[str, Any]) -> dict[str, Any]:
+        return {"kinds": tuple(told["kinds"])}
 
 
 @dataclass(frozen=True)
@@ -91,7 +123,7 @@ class Accepted:
 
 
 @dataclass(frozen=True)
-class Shape:
+class Shape(Told):
     """How far a hand is from winning. Of thirteen tiles it accepts kinds; of fourteen one is discarded first."""
 
     shanten: int
@@ -99,26 +131,39 @@ class Shape:
     discards: Table[Accepted]
     """The kinds to discard, the best first, with what the hand then accepts."""
 
+    @classmethod
+    def _fields(cls, told: dict[str, Any]) -> dict[str, Any]:
+        discards = {each["discard"]: _accepted(each) for each in told.get("discards", ())}
+        accepts = _accepted(told) if "accepts" in told else None
+        return {"shanten": told["shanten"], "accepts": accepts, "discards": Table(discards)}
+
 
 @dataclass(frozen=True)
-class Refused:
+class Refused(Told):
     """Why a line is refused: `text` and `place` where one of its texts of tiles is; the key at fault, as `seat`, where it is one;
     `at` and `length` in bytes where one word of the line is at fault; and what may stand there."""
 
     code: str
-    text: str | None
+    text: Key | None
     place: int | None
-    key: str | None
+    key: Key | None
     at: int | None
     length: int | None
     words: str
 
+    @classmethod
+    def _fields(cls, told: dict[str, Any]) -> dict[str, Any]:
+        return {name: told.get(name) for name in ("code", "text", "place", "key", "at", "length", "words")}
+
 
 Answer = Union[Won, NoYaku, NoWin, Waits, Shape, Refused]
 
-
-def _accepted(told: dict[str, Any]) -> Accepted:
-    return Accepted(Table({each["kind"]: each["live"] for each in told["accepts"]}), told["live"])
+_SORT = slice(len('{"answer":"'), len('{"answer":"no yak'))
+_SORTS: dict[str, type[Answer]] = {
+    **{'won","': Won, "no yak": NoYaku, "no win": NoWin},
+    **{'waits"': Waits, 'shape"': Shape, "refuse": Refused},
+}
+"""The sorts of answers, by the letters that stand in this place."""
 
 
 def read(text: str) -> Answer:
@@ -129,23 +174,8 @@ def read(text: str) -> Answer:
     >>> read('{"answer":"refused","code":"H6","key":"by","words":"a win tells on, by, seat and round"}').key
     'by'
     """
-    return value_of(json.loads(text))
+    return cast("Answer", unread(_SORTS[text[_SORT]], text))
 
 
-def value_of(told: dict[str, Any]) -> Answer:
-    """The answer that an object of JSON is."""
-    sort = told.pop("answer")
-    if sort == "won":
-        yaku = tuple(Yaku(each["number"], each["word"], each["japanese"]) for each in told["yaku"])
-        told |= {"payment": Table(told["payment"]), "yaku": yaku}
-        return Won(**told)
-    if sort == "waits":
-        return Waits(tuple(told["kinds"]))
-    if sort == "shape":
-        accepts = _accepted(told) if "accepts" in told else None
-        discards = {each["discard"]: _accepted(each) for each in told.get("discards", ())}
-        return Shape(told["shanten"], accepts, Table(discards))
-    if sort == "refused":
-        text, place, key, at, length = (told.get(name) for name in ("text", "place", "key", "at", "length"))
-        return Refused(told["code"], text, place, key, at, length, told["words"])
-    return NoYaku(told.get("rules")) if sort == "no yaku" else NoWin(told.get("rules"))
+def _accepted(told: dict[str, Any]) -> Accepted:
+    return Accepted(Table({each["kind"]: each["live"] for each in told["accepts"]}), told["live"])

@@ -5,11 +5,11 @@ use Rattle.riichi_desk.specs.Games.{AnswersAllGames, AnswersGames, none, one_mor
 use Rattle.riichi_desk.proofs.games.answer_files.Goals as goal
 
 -- one more text is answered
-next : {W : Type 0} (sink : OfSink W) (manner : GameManner) (start old new : W) (count : ℕ) (was is : Bool)
-    → ((texts : List (List ℕ)) × (length texts ≡ count) × AnswersAllGames sink manner start texts old was)
-    → ((text : List ℕ) × AnswersGames sink manner old new text is)
-    → (texts : List (List ℕ)) × (length texts ≡ count + 1) × AnswersAllGames sink manner start texts new (was || is)
-next sink manner start old new count was is so_far answered = (
+next : {W : Type 0} (sink : OfSink W) (manner : GameManner) (is_hinted : Bool) (start old new : W) (count : ℕ) (was is : Bool)
+    → ((texts : List (List ℕ)) × (length texts ≡ count) × AnswersAllGames sink manner is_hinted start texts old was)
+    → ((text : List ℕ) × AnswersGames sink manner is_hinted old new text is)
+    → (texts : List (List ℕ)) × (length texts ≡ count + 1) × AnswersAllGames sink manner is_hinted start texts new (was || is)
+next sink manner is_hinted start old new count was is so_far answered = (
   so_far.0 ++ answered.0 ∷ [],
   length-append so_far.0 (answered.0 ∷ []) ∙ ap (λ n. n + 1) so_far.1,
   one_more so_far.0 answered.0 old new was is so_far.2 answered.1,
@@ -21,4 +21,4 @@ loop-file-init g c = ([], refl, none)
 pub loop-file-preserved : goal.loop-file-preserved
 loop-file-preserved g c =
     let l = c.loop-file in
-    next g.W.Sink c.args.manner c.args.writer.now l.writer c.answer_file.new.writer l.file-index l.is_refused c.in_ok-is_refused.field-0 l.invariant c.in_ok-is_refused.ensures
+    next g.W.Sink c.args.manner c.args.is_hinted c.args.writer.now l.writer c.answer_file.new.writer l.file-index l.is_refused c.in_ok-is_refused.field-0 l.invariant c.in_ok-is_refused.ensures

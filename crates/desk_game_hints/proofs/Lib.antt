@@ -1,0 +1,4 @@
+pub mod FaultLemmas
+pub mod PutLemmas
+pub mod HintLemmas
+pub mod HintedText

@@ -1,0 +1,5 @@
+pub mod EndedLemmas
+pub mod HallLemmas
+pub mod TotalLemmas
+pub mod GameSums
+pub mod Orders

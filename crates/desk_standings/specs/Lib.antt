@@ -1,0 +1,4 @@
+pub mod Agreeing
+pub mod Ended
+pub mod Halls
+pub mod Laws

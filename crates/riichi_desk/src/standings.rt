@@ -1,0 +1,171 @@
+//! The command `standings`: the players of a tournament by the games of files.
+ghost use Rattle.std.specs.Prelude.{◌≡◌};
+ghost use Rattle.riichi_desk.specs.Standing as spec;
+
+use crate::failure::Failure;
+use crate::files::{is_input, open_file};
+use crate::noted::Notes;
+use desk_cli::{StandingsForm, StandingsRequest, TieWord};
+use desk_io::ToWriter;
+use desk_lines::{DeskFault, write_all};
+use desk_score::ScoreFault;
+use desk_standings::{
+    EndedGame, Hall, Standing, StandingsFault, TieBreak, Tournament, Trouble, Why, judge_texts,
+};
+use riichi_hand::Rules;
+use riichi_standings_text::{
+    are_alike, standings_json, standings_sheet, standings_table, standings_text,
+};
+use std::alloc::{AllocError, Global};
+use std::io::{Eprint, ErrorKind, Input, Print, Read};
+use std::rt::Files;
+use std::thread::Threads;
+
+/// Prints the standings of a tournament. Names that may be one player's are told on standard error.
+pub fn answer_standings<'a, R: Input + Print + Eprint + Files + Threads + Sync + AllocGlobal>(
+    rt: &R,
+    notes: &Notes<'a>,
+    asked: &StandingsRequest<'_, 'a>,
+) -> Result<bool, Failure<'a>> {
+    let hall = hall_of(rt, notes, asked.rules, asked.files, asked.workers)?;
+    let list = list_of(&hall, asked.ties)?;
+    let tournament = hall.tournament();
+    tell_alike(rt, tournament.names());
+    let text = text_in(asked.form, rt.alloc(), tournament, list.as_slice())?;
+    let mut writer = ToWriter::new(notes.output(rt));
+    match write_all(&mut writer, text.as_slice()) {
+        Ok(()) => Ok(false),
+        Err(fault) => Err(Failure::Explained(fault)),
+    }
+}
+
+/// The players by their places, where the games make standings.
+pub fn list_of<'a>(hall: &Hall, ties: TieWord) -> Result<Vec<Standing>, Failure<'a>> {
+    match hall.standings(ties_of(ties)) {
+        Ok(list) => Ok(list),
+        Err(fault) => Err(no_standings(fault)),
+    }
+}
+
+/// The standings in a form.
+fn text_in(
+    form: StandingsForm,
+    alloc: Global,
+    tournament: &Tournament,
+    list: &[Standing],
+) -> Result<Vec<u8>, AllocError> {
+    match form {
+        StandingsForm::Words => Ok(standings_text(alloc, tournament, list)?.into_bytes()),
+        StandingsForm::Json => Ok(standings_json(alloc, tournament, list)?.into_bytes()),
+        StandingsForm::Csv => standings_table(alloc, tournament, list),
+        StandingsForm::Sheet => Ok(standings_sheet(alloc, tournament, list)?.into_bytes()),
+    }
+}
+
+/// What parts equal totals.
+fn ties_of(ties: TieWord) -> TieBreak
+    ensures { result ≡ spec.ties_of ties }
+{
+    match ties {
+        TieWord::Shared => TieBreak::Shared,
+        TieWord::Firsts => TieBreak::Firsts,
+        TieWord::Best => TieBreak::Best,
+    }
+}
+
+/// Why the games make no standings.
+fn no_standings<'a>(fault: StandingsFault) -> Failure<'a> {
+    match fault {
+        StandingsFault::FewerTables(session) => Failure::FewerTables(session),
+        StandingsFault::Memory => Failure::Fault(ScoreFault::Memory),
+        _ => Failure::Fault(ScoreFault::Range),
+    }
+}
+
+/// The games of files, so many of which are judged side by side. What is at fault is that of the first file that has a fault.
+pub fn hall_of<'a, R: Input + Files + Threads + Sync + AllocGlobal>(
+    rt: &R,
+    notes: &Notes<'a>,
+    given: Rules,
+    files: &[&'a str],
+    workers: u32,
+) -> Result<Hall, Failure<'a>> {
+    let mut texts = Vec::new(rt.alloc());
+    for file in files {
+        let text = text_of(rt, notes, *file)?;
+        if texts.push(text).is_err() {
+            return Err(Failure::Fault(ScoreFault::Memory));
+        }
+    }
+    let mut hall = Hall::new(rt.alloc());
+    let mut names = files.iter();
+    for part in texts.as_slice().chunks(workers.max(1) as usize) {
+        for judged in judge_texts(rt, rt.alloc(), given, part)? {
+            let file = names.next().copied().unwrap_or("");
+            take_judged(&mut hall, file, &judged)?;
+        }
+    }
+    Ok(hall)
+}
+
+/// Takes the games of a file.
+fn take_judged<'a>(
+    hall: &mut Hall,
+    file: &'a str,
+    judged: &Result<Vec<EndedGame>, Trouble>,
+) -> Result<(), Failure<'a>> {
+    let trouble = match judged {
+        Err(trouble) => *trouble,
+        Ok(games) => match hall.take_games(games.as_slice()) {
+            Ok(()) => return Ok(()),
+            Err(trouble) => trouble,
+        },
+    };
+    Err(match trouble.why {
+        Why::Memory => Failure::Fault(ScoreFault::Memory),
+        _ => Failure::NoTournament { file, trouble },
+    })
+}
+
+/// The text of a file, or of standard input.
+fn text_of<'a, R: Input + Files + AllocGlobal>(
+    rt: &R,
+    notes: &Notes<'a>,
+    file: &'a str,
+) -> Result<Vec<u8>, Failure<'a>> {
+    if is_input(file) {
+        read_whole(rt.alloc(), notes.reader("standard input", rt.reader()))
+    } else {
+        read_whole(rt.alloc(), notes.reader(file, open_file(rt, file)?))
+    }
+}
+
+/// All that a stream gives.
+fn read_whole<'a, T: Read + Drop>(alloc: Global, stream: T) -> Result<Vec<u8>, Failure<'a>> {
+    let mut stream = stream;
+    let mut text = Vec::new(alloc);
+    match stream.read_to_end(&mut text) {
+        Ok(_) => Ok(text),
+        Err(error) => Err(match error.kind() {
+            ErrorKind::OutOfMemory => Failure::Fault(ScoreFault::Memory),
+            _ => Failure::Explained(DeskFault::Read),
+        }),
+    }
+}
+
+/// Tells the names that may be one player's, each with those before it.
+fn tell_alike<R: Eprint>(rt: &R, names: &[String]) {
+    for (number, name) in names.iter().enumerate() {
+        tell_like(rt, &names[..number], name.as_str());
+    }
+}
+
+/// Tells the names that are like one.
+fn tell_like<R: Eprint>(rt: &R, names: &[String], own: &str) {
+    for name in names {
+        if are_alike(name.as_str(), own) {
+            let other = name.as_str();
+            let _ = eprintln!(rt; "riichi_desk: `{other}` and `{own}` may be one player");
+        }
+    }
+}

@@ -1,0 +1,5 @@
+pub mod NameLemmas
+pub mod StandingLemmas
+pub mod Sums
+pub mod Orders
+pub mod Named
