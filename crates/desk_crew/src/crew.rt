@@ -61,8 +61,8 @@ impl Crew {
         Crew::of(alloc, workers, round_bytes(workers) / 4)
     }
 
-    /// So many threads, and rounds of so many bytes or more.
-    pub(crate) fn of(alloc: Global, workers: usize, enough: usize) -> Result<Crew, AllocError>
+    /// A crew of so many threads whose rounds read so many bytes or more.
+    pub fn of(alloc: Global, workers: usize, enough: usize) -> Result<Crew, AllocError>
         requires { 1 ≤ workers }
         ensures workers { IfOk result (λ crew. length crew.shares.items ≡ workers) }
     {

@@ -26,6 +26,3 @@ mod share;
 mod standing;
 
 pub use crew::Crew;
-
-#[cfg(test)]
-mod tests;

@@ -1,4 +1,3 @@
 pub mod FaultLemmas
 pub mod PutLemmas
 pub mod HintLemmas
-pub mod HintedText

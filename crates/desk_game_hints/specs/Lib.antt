@@ -1,2 +1,1 @@
 pub mod Hinted
-pub mod HintedStreams

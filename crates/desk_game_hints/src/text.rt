@@ -1,7 +1,9 @@
 //! A text of games over streams, with hints.
 ghost use Rattle.std.specs.Prelude.{◌≡◌, IfOk, IsErrOf};
 ghost use Rattle.desk_lines.specs.Streams.{FailsOrGoesOn, IsReadWithin};
-ghost use Rattle.desk_game_hints.specs.HintedStreams.{TellsHinted, TellsHintedEnded, TellsHintedFront};
+ghost use Rattle.desk_games.specs.declared.desk.GameDesk.TheVariants.{NoGame};
+ghost use Rattle.desk_games.specs.Streams.{TellsGames, TellsEnded, TellsFront};
+ghost use Rattle.desk_game_hints.specs.Hinted.{HintsLines};
 
 use crate::hinted::HintedGames;
 use desk_games::{GamesForm, GamesReport, write_end};
@@ -20,15 +22,15 @@ pub fn hinted_games_text<R: Source, W: Sink>(
     writer: &mut W,
 ) -> Result<GamesReport, DeskFault>
     ensures ok { IfOk result (λ report.
-        TellsHinted ⟦<R as Source>⟧ ⟦<W as Sink>⟧ is_numbered form given reader.old reader.new writer.old writer.new report.counts report.desk) }
+        TellsGames ⟦<R as Source>⟧ ⟦<W as Sink>⟧ form (HintsLines is_numbered form given NoGame) reader.old reader.new writer.old writer.new report.counts report.desk) }
 
     // A read failed, or there were too many.
     ensures read_failed { IsErrOf result DeskFault.Read
         → FailsOrGoesOn ⟦<R as Source>⟧ reader.old reader.new
-        × TellsHintedEnded ⟦<R as Source>⟧ ⟦<W as Sink>⟧ is_numbered form given reader.old reader.new writer.old writer.new }
+        × TellsEnded ⟦<R as Source>⟧ ⟦<W as Sink>⟧ form (HintsLines is_numbered form given NoGame) reader.old reader.new writer.old writer.new }
 
     ensures write_failed { IsErrOf result DeskFault.Write
-        → TellsHintedFront ⟦<R as Source>⟧ ⟦<W as Sink>⟧ is_numbered form given reader.old reader.new writer.old writer.new }
+        → TellsFront ⟦<R as Source>⟧ ⟦<W as Sink>⟧ form (HintsLines is_numbered form given NoGame) reader.old reader.new writer.old writer.new }
     ensures no_memory { IsErrOf result DeskFault.Memory → ⊥ }
     // A failed read is told as such, whatever comes after it. So what is said of a failed read is so before each read.
     ensures told_as_read { (IsErrOf result DeskFault.Read → ⊥)

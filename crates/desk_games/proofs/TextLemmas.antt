@@ -11,8 +11,7 @@ use Rattle.desk_lines.specs.Telling.{text_of, with_line_feed}
 use Rattle.desk_lines.proofs.StreamLemmas.{WritesAll-trans, StopsWriting-after}
 use Rattle.desk_lines.proofs.TellingLemmas.{text_of_more}
 use Rattle.desk_games.specs.Desks.{told_at_end}
-use Rattle.desk_games.specs.Streams.{games_answers, TellsGames, TellsFront}
-use Rattle.desk_games.specs.Texts.{AnswersLines}
+use Rattle.desk_games.specs.Streams.{OfLines, games_answers, TellsGames, TellsFront}
 use Rattle.desk_games.specs.declared.desk.GameDesk.{GameDesk}
 use Rattle.desk_games.specs.declared.desk.GameDesk.TheVariants.{NoGame}
 use Rattle.desk_games.specs.declared.form.GamesForm.{GamesForm}
@@ -30,17 +29,17 @@ module _ {W : Type 0} (sink : OfSink W) (start old new : W) (form : GamesForm) (
       subst (λ (text : List ℕ). StopsWriting sink start new text) (sym (text_of_more answers (told_at_end form last))) (StopsWriting-after sink start old new (text_of answers) (with_line_feed (told_at_end form last)) first then)
 
 -- what a new teller told
-pub told_from_none : (first : Games) (is_numbered : Bool) (form : GamesForm) (given : Rules) (lines answers : List (List ℕ)) (report : DeskReport) (last : GameDesk) → first.given ≡ given → first.is_numbered ≡ is_numbered → first.form ≡ form → first.desk ≡ NoGame
-    → AnswersLines first.is_numbered first.form first.given first.desk lines answers report last → AnswersLines is_numbered form given NoGame lines answers report last
-told_from_none first is_numbered form given lines answers report last given_is numbered_is form_is none answered =
-    subst (λ (d : GameDesk). AnswersLines is_numbered form given d lines answers report last) none
-    (subst (λ (rules : Rules). AnswersLines is_numbered form rules first.desk lines answers report last) given_is
-    (subst (λ (how : GamesForm). AnswersLines is_numbered how first.given first.desk lines answers report last) form_is
-    (subst (λ (b : Bool). AnswersLines b first.form first.given first.desk lines answers report last) numbered_is answered)))
+pub from_none : (Told : Bool → GamesForm → Rules → GameDesk → Type 0) (first : Games) (is_numbered : Bool) (form : GamesForm) (given : Rules) → first.given ≡ given → first.is_numbered ≡ is_numbered → first.form ≡ form → first.desk ≡ NoGame
+    → Told first.is_numbered first.form first.given first.desk → Told is_numbered form given NoGame
+from_none Told first is_numbered form given given_is numbered_is form_is none told =
+    subst (λ (d : GameDesk). Told is_numbered form given d) none
+    (subst (λ (rules : Rules). Told is_numbered form rules first.desk) given_is
+    (subst (λ (how : GamesForm). Told is_numbered how first.given first.desk) form_is
+    (subst (λ (b : Bool). Told b first.form first.given first.desk) numbered_is told)))
 
-module _ {R W : Type 0} (source : OfSource R) (sink : OfSink W) (is_numbered : Bool) (form : GamesForm) (given : Rules) (reader read : R) (writer then written : W) (text : List ℕ) (answers : List (List ℕ)) (report : DeskReport) (last : GameDesk) where
-  pub tells_games : GivesAll source reader read text → AnswersLines is_numbered form given NoGame (lines text) answers report last → WritesAll sink writer then (text_of answers)
-      → WritesAll sink then written (with_line_feed (told_at_end form last)) → TellsGames source sink is_numbered form given reader read writer written report last
+module _ {R W : Type 0} (source : OfSource R) (sink : OfSink W) (form : GamesForm) (Answered : OfLines) (reader read : R) (writer then written : W) (text : List ℕ) (answers : List (List ℕ)) (report : DeskReport) (last : GameDesk) where
+  pub tells_games : GivesAll source reader read text → Answered (lines text) answers report last → WritesAll sink writer then (text_of answers)
+      → WritesAll sink then written (with_line_feed (told_at_end form last)) → TellsGames source sink form Answered reader read writer written report last
   tells_games all answered first behind = record {
     text = text;
     answers = answers;
@@ -49,8 +48,8 @@ module _ {R W : Type 0} (source : OfSource R) (sink : OfSink W) (is_numbered : B
     writes = written_with_end sink writer then written form answers last first behind;
   }
 
-  pub tells_to_end : GivesAll source reader read text → AnswersLines is_numbered form given NoGame (lines text) answers report last → WritesAll sink writer then (text_of answers)
-      → StopsWriting sink then written (with_line_feed (told_at_end form last)) → TellsFront source sink is_numbered form given reader read writer written
+  pub tells_to_end : GivesAll source reader read text → Answered (lines text) answers report last → WritesAll sink writer then (text_of answers)
+      → StopsWriting sink then written (with_line_feed (told_at_end form last)) → TellsFront source sink form Answered reader read writer written
   tells_to_end all answered first behind = record {
     text = text;
     whole = lines text;

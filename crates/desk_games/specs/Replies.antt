@@ -163,15 +163,15 @@ game_reply form game line =
 
 -- ---- where a line is taken back
 
-unfoldable pub stands_in : GamesForm → GameState → List ℕ
-stands_in form state = written (writing_of form) (stands_text state) (stands_members state) (stands_row state)
+unfoldable pub stands_told : GamesForm → GameState → List ℕ
+stands_told form state = written (writing_of form) (stands_text state) (stands_members state) (stands_row state)
 
 -- the answer is the state that the game is in again
 abbrev pub back_reply : GamesForm → GameSoFar → Reply
 back_reply form game = record {
   form = form;
   ended = None;
-  answer = Some (stands_in form game.progress.state);
+  answer = Some (stands_told form game.progress.state);
   outcome = None;
   kind = Answered;
   desk = desk.Game game;

@@ -9,7 +9,7 @@ ghost use Rattle.desk_lines.specs.Outbox.{HasRoomForLine, HasRoomForText};
 ghost use Rattle.desk_lines.specs.Telling.{with_line_feed};
 ghost use Rattle.desk_games.specs.Below.{below_deal, said_end, step_in};
 ghost use Rattle.desk_games.specs.Forms.{front_text, number_front, brace_front};
-ghost use Rattle.desk_games.specs.Replies.{begun_in, outcome_answer, outcome_written, refused_in, stands_in};
+ghost use Rattle.desk_games.specs.Replies.{begun_in, outcome_answer, outcome_written, refused_in, stands_told};
 ghost use Rattle.desk_games.specs.Texts.{behind_front};
 ghost use Rattle.desk_games.specs.declared.form.Writing.TheVariants.{Words, Members, Rows};
 
@@ -200,7 +200,7 @@ fn put_said_end(manner: Manner, step: &Step<'_>, outbox: &mut Outbox)
 }
 
 /// Puts the state that a game is in again, where a line is taken back.
-#[tactic(auto, unfolding(crate::specs::Replies::stands_in))]
+#[tactic(auto, unfolding(crate::specs::Replies::stands_told))]
 pub(crate) fn put_stands(manner: Manner, state: &GameState, outbox: &mut Outbox)
     requires { HasRoomForText outbox.old }
     ensures { outbox.new.bytes.items ≡ outbox.old.bytes.items

@@ -4,7 +4,9 @@ ghost use Rattle.desk_lines.specs.Streams.{Writes, FailsOrGoesOn, IsReadWithin};
 ghost use Rattle.desk_lines.specs.Telling.{with_line_feed};
 ghost use Rattle.desk_games.specs.Desks.{told_at_end};
 ghost use Rattle.desk_games.specs.declared.form.GamesForm.TheVariants.{Answers};
+ghost use Rattle.desk_games.specs.declared.desk.GameDesk.TheVariants.{NoGame};
 ghost use Rattle.desk_games.specs.Streams.{TellsGames, TellsEnded, TellsFront};
+ghost use Rattle.desk_games.specs.Texts.{AnswersLines};
 
 use crate::desk::GameDesk;
 use crate::form::GamesForm;
@@ -24,15 +26,15 @@ pub fn games_text<R: Source, W: Sink>(
     writer: &mut W,
 ) -> Result<GamesReport, DeskFault>
     ensures ok { IfOk result (λ report.
-        TellsGames ⟦<R as Source>⟧ ⟦<W as Sink>⟧ false Answers given reader.old reader.new writer.old writer.new report.counts report.desk) }
+        TellsGames ⟦<R as Source>⟧ ⟦<W as Sink>⟧ Answers (AnswersLines false Answers given NoGame) reader.old reader.new writer.old writer.new report.counts report.desk) }
 
     // A read failed, or there were too many.
     ensures read_failed { IsErrOf result DeskFault.Read
         → FailsOrGoesOn ⟦<R as Source>⟧ reader.old reader.new
-        × TellsEnded ⟦<R as Source>⟧ ⟦<W as Sink>⟧ false Answers given reader.old reader.new writer.old writer.new }
+        × TellsEnded ⟦<R as Source>⟧ ⟦<W as Sink>⟧ Answers (AnswersLines false Answers given NoGame) reader.old reader.new writer.old writer.new }
 
     ensures write_failed { IsErrOf result DeskFault.Write
-        → TellsFront ⟦<R as Source>⟧ ⟦<W as Sink>⟧ false Answers given reader.old reader.new writer.old writer.new }
+        → TellsFront ⟦<R as Source>⟧ ⟦<W as Sink>⟧ Answers (AnswersLines false Answers given NoGame) reader.old reader.new writer.old writer.new }
     ensures no_memory { IsErrOf result DeskFault.Memory → ⊥ }
     // A failed read is told as such, whatever comes after it. So what is said of a failed read is so before each read.
     ensures told_as_read { (IsErrOf result DeskFault.Read → ⊥)
@@ -52,15 +54,15 @@ pub fn games_text_with<R: Source, W: Sink>(
     writer: &mut W,
 ) -> Result<GamesReport, DeskFault>
     ensures ok { IfOk result (λ report.
-        TellsGames ⟦<R as Source>⟧ ⟦<W as Sink>⟧ is_numbered form given reader.old reader.new writer.old writer.new report.counts report.desk) }
+        TellsGames ⟦<R as Source>⟧ ⟦<W as Sink>⟧ form (AnswersLines is_numbered form given NoGame) reader.old reader.new writer.old writer.new report.counts report.desk) }
 
     // A read failed, or there were too many.
     ensures read_failed { IsErrOf result DeskFault.Read
         → FailsOrGoesOn ⟦<R as Source>⟧ reader.old reader.new
-        × TellsEnded ⟦<R as Source>⟧ ⟦<W as Sink>⟧ is_numbered form given reader.old reader.new writer.old writer.new }
+        × TellsEnded ⟦<R as Source>⟧ ⟦<W as Sink>⟧ form (AnswersLines is_numbered form given NoGame) reader.old reader.new writer.old writer.new }
 
     ensures write_failed { IsErrOf result DeskFault.Write
-        → TellsFront ⟦<R as Source>⟧ ⟦<W as Sink>⟧ is_numbered form given reader.old reader.new writer.old writer.new }
+        → TellsFront ⟦<R as Source>⟧ ⟦<W as Sink>⟧ form (AnswersLines is_numbered form given NoGame) reader.old reader.new writer.old writer.new }
     ensures no_memory { IsErrOf result DeskFault.Memory → ⊥ }
     // A failed read is told as such, whatever comes after it. So what is said of a failed read is so before each read.
     ensures told_as_read { (IsErrOf result DeskFault.Read → ⊥)

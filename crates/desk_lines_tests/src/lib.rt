@@ -1,9 +1,11 @@
-//! Tests of `desk_lines`, by what it exports: the answers to lines, to texts and to scripts, and its law; of `desk_score`; and
-//! that the rules which these answers name are read back.
+//! Tests of `desk_lines`, by what it exports: the answers to lines, to texts and to scripts, and its law; of `desk_score` and
+//! `desk_crew`; and that the rules which these answers name are read back.
 //!
 //! They stand apart from the libraries, since a check of a crate with its tests proves the crate once more.
 #![tactic(auto)]
 
+#[cfg(test)]
+mod crews;
 #[cfg(test)]
 mod facts;
 #[cfg(test)]

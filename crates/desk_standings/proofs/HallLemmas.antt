@@ -1,7 +1,7 @@
 -- Games in turn, once one more is taken or isn't.
 use Rattle.std.proofs.Common.{◌≡◌, ◌∙◌, ℕ, ◌+◌, ◌<◌, List, [], ◌∷◌, ◌++◌, length, take, drop, get_or, refl, subst, sym, ap}
 use Rattle.std.proofs.lemmas.List.{take_more, drop_more, take-append-drop}
-use Rattle.desk_standings.specs.Halls.{Held, CanTake, TakesInTurn, with_ended, IsLeft, StopsAt}
+use Rattle.desk_standings.specs.Halls.{Held, CanTake, TakesInTurn, with_ended, IsLeftAlone, StopsAt}
 use Rattle.desk_standings.specs.declared.ended.EndedGame.{EndedGame}
 use Rattle.desk_standings.specs.declared.trouble.Why.{Why}
 
@@ -16,7 +16,7 @@ takes_next held mid new games i game inside is taken can with =
     let same : take i games ++ game ∷ [] ≡ take (i + 1) games = ap (λ (x : EndedGame). take i games ++ x ∷ []) is ∙ sym (take_more games i game inside) in
     subst (TakesInTurn held (take (i + 1) games)) (sym with) (subst (λ (front : List EndedGame). TakesInTurn held front (with_ended mid game)) same more)
 
-pub stops_there : (held mid last : Held) (games : List EndedGame) (i : ℕ) (game : EndedGame) (why : Why) → i < length games → game ≡ get_or games i game → TakesInTurn held (take i games) mid → IsLeft mid game why last → StopsAt held games why last
+pub stops_there : (held mid last : Held) (games : List EndedGame) (i : ℕ) (game : EndedGame) (why : Why) → i < length games → game ≡ get_or games i game → TakesInTurn held (take i games) mid → IsLeftAlone mid game why last → StopsAt held games why last
 stops_there held mid last games i game why inside is taken left = record {
   front = take i games;
   game = game;

@@ -17,12 +17,12 @@ use Rattle.std.proofs.lemmas.Slice.Eq.{bytes_eq-Decides}
 use Rattle.riichi_table.specs.Players.{of_player}
 use Rattle.riichi_table.specs.declared.player.Player.{Player}
 use Rattle.riichi_table.specs.declared.player.Player.TheVariants.{First, Second, Third, Fourth}
-use Rattle.riichi_standings.specs.Laws.{NamedResult, name_of, named, AreResultsOf}
+use Rattle.riichi_standings.specs.Laws.{NamedResult, name_at, with_its_name, AreResultsOf}
 use Rattle.riichi_standings.specs.Tournaments.{Games, name_added, with_name, number_of_player, with_seat, with_table_taken}
 use Rattle.riichi_standings.specs.declared.result.SeatResult.{SeatResult}
 use Rattle.riichi_standings.proofs.NameLemmas.{any-none}
 use Rattle.riichi_standings.proofs.Named.{order_of_games_is_free}
-use Rattle.desk_standings.specs.Halls.{Held, nothing_held, TakesInTurn, name_in, with_player, with_players, with_ended}
+use Rattle.desk_standings.specs.Halls.{Held, nothing_held, TakesInTurn, name_in, with_game_of, with_players, with_ended}
 use Rattle.desk_standings.specs.Laws.{OrderOfFilesIsFree}
 use Rattle.desk_standings.specs.declared.ended.EndedGame.{EndedGame}
 use Rattle.desk_standings.proofs.TotalLemmas.{IsInside, number_inside, all_inside}
@@ -33,18 +33,18 @@ use Rattle.desk_standings.proofs.TotalLemmas.{IsInside, number_inside, all_insid
 known : (names : List (List ℕ)) (name : List ℕ) → position_or_len (bytes_eq name) names < length names → get_or names (position_or_len (bytes_eq name) names) [] ≡ name
 known names name inside = sym ((bytes_eq-Decides name (get_or names (position_or_len (bytes_eq name) names) [])).0 (passes_at_first (bytes_eq name) names [] inside))
 
-name_stays : (names : List (List ℕ)) (name : List ℕ) (player : ℕ) → player < length names → name_of (with_name names name) player ≡ name_of names player
+name_stays : (names : List (List ℕ)) (name : List ℕ) (player : ℕ) → player < length names → name_at (with_name names name) player ≡ name_at names player
 name_stays names name player inside = by_test (nat_lt (position_or_len (bytes_eq name) names) (length names))
   where
-    by_test : (b : Bool) → name_of (name_added (cond b (Some (position_or_len (bytes_eq name) names)) None) names name) player ≡ name_of names player
+    by_test : (b : Bool) → name_at (name_added (cond b (Some (position_or_len (bytes_eq name) names)) None) names name) player ≡ name_at names player
     by_test true = refl
     by_test false = get_or_append_left names (name ∷ []) [] player inside
 
-name_is : (names : List (List ℕ)) (name : List ℕ) → name_of (with_name names name) (number_of_player names name) ≡ name
+name_is : (names : List (List ℕ)) (name : List ℕ) → name_at (with_name names name) (number_of_player names name) ≡ name
 name_is names name = by_test (nat_lt (position_or_len (bytes_eq name) names) (length names)) refl
   where
     by_test : (b : Bool) → nat_lt (position_or_len (bytes_eq name) names) (length names) ≡ b
-        → name_of (name_added (cond b (Some (position_or_len (bytes_eq name) names)) None) names name) (unwrap_or (cond b (Some (position_or_len (bytes_eq name) names)) None) (length names)) ≡ name
+        → name_at (name_added (cond b (Some (position_or_len (bytes_eq name) names)) None) names name) (unwrap_or (cond b (Some (position_or_len (bytes_eq name) names)) None) (length names)) ≡ name
     by_test true is = known names name (ltb-true (position_or_len (bytes_eq name) names) (length names) is)
     by_test false is = get_or_at names name [] [] (length names) refl
 
@@ -84,10 +84,10 @@ any_more names name q = by_test (nat_lt (position_or_len (bytes_eq name) names) 
 record IsNamed (games : Games) (all : List NamedResult) : Type 0 where
   distinct : IsDistinct bytes_eq games.names
   inside : All (IsInside games.names) games.results
-  named_is : map (named games.names) games.results ≡ all
+  named_is : map (with_its_name games.names) games.results ≡ all
   any_is : (q : List ℕ) → list_any (bytes_eq q) games.names ≡ list_any (λ (one : NamedResult). bytes_eq q one.name) all
 
-named_stay : (names : List (List ℕ)) (name : List ℕ) (results : List SeatResult) → All (IsInside names) results → map (named (with_name names name)) results ≡ map (named names) results
+named_stay : (names : List (List ℕ)) (name : List ℕ) (results : List SeatResult) → All (IsInside names) results → map (with_its_name (with_name names name)) results ≡ map (with_its_name names) results
 named_stay names name [] all = refl
 named_stay names name (seat ∷ results) all =
     let own = name_stays names name seat.player (All-head (IsInside names) seat results all) in
@@ -100,12 +100,12 @@ seat_named games all name session place points so_far =
     let names = games.names in
     let new : SeatResult = record { player = number_of_player names name; session = session; place = place; points = points } in
     let one : NamedResult = record { name = name; session = session; place = place; points = points } in
-    let last : named (with_name names name) new ≡ one = ap (λ (own : List ℕ). record { name = own; session = session; place = place; points = points }) (name_is names name) in
+    let last : with_its_name (with_name names name) new ≡ one = ap (λ (own : List ℕ). record { name = own; session = session; place = place; points = points }) (name_is names name) in
     record {
       distinct = distinct_more names name so_far.distinct;
       inside = all_inside names name new (number_inside names name) games.results so_far.inside;
-      named_is = map-append (named (with_name names name)) games.results (new ∷ [])
-          ∙ ap (λ (rest : List NamedResult). rest ++ named (with_name names name) new ∷ []) (named_stay names name games.results so_far.inside ∙ so_far.named_is)
+      named_is = map-append (with_its_name (with_name names name)) games.results (new ∷ [])
+          ∙ ap (λ (rest : List NamedResult). rest ++ with_its_name (with_name names name) new ∷ []) (named_stay names name games.results so_far.inside ∙ so_far.named_is)
           ∙ ap (λ (x : NamedResult). all ++ x ∷ []) last;
       any_is = λ q.
           any_more names name q ∙ ap (λ (b : Bool). b || bytes_eq q name) (so_far.any_is q)
@@ -129,7 +129,7 @@ abbrev all_of : List EndedGame → List NamedResult
 all_of [] = []
 all_of (game ∷ games) = named_in First game ∷ named_in Second game ∷ named_in Third game ∷ named_in Fourth game ∷ all_of games
 
-player_named : (game : EndedGame) (games : Games) (all : List NamedResult) (player : Player) → IsNamed games all → IsNamed (with_player game games player) (all ++ named_in player game ∷ [])
+player_named : (game : EndedGame) (games : Games) (all : List NamedResult) (player : Player) → IsNamed games all → IsNamed (with_game_of game games player) (all ++ named_in player game ∷ [])
 player_named game games all player so_far = seat_named games all (name_in game player) game.session (of_player game.finals player).place (of_player game.finals player).total so_far
 
 players_named : (game : EndedGame) (games : Games) (all : List NamedResult) → IsNamed games all → IsNamed (with_players game games) (all ++ four_of game)
@@ -139,9 +139,9 @@ players_named game games all so_far =
     let c = named_in Third game in
     let d = named_in Fourth game in
     let first = player_named game games all First so_far in
-    let second = player_named game (with_player game games First) (all ++ a ∷ []) Second first in
-    let third = player_named game (with_player game (with_player game games First) Second) ((all ++ a ∷ []) ++ b ∷ []) Third second in
-    let fourth = player_named game (with_player game (with_player game (with_player game games First) Second) Third) (((all ++ a ∷ []) ++ b ∷ []) ++ c ∷ []) Fourth third in
+    let second = player_named game (with_game_of game games First) (all ++ a ∷ []) Second first in
+    let third = player_named game (with_game_of game (with_game_of game games First) Second) ((all ++ a ∷ []) ++ b ∷ []) Third second in
+    let fourth = player_named game (with_game_of game (with_game_of game (with_game_of game games First) Second) Third) (((all ++ a ∷ []) ++ b ∷ []) ++ c ∷ []) Fourth third in
     let flat : (((all ++ a ∷ []) ++ b ∷ []) ++ c ∷ []) ++ d ∷ [] ≡ all ++ a ∷ b ∷ c ∷ d ∷ [] =
     append_assoc ((all ++ a ∷ []) ++ b ∷ []) (c ∷ []) (d ∷ []) ∙ append_assoc (all ++ a ∷ []) (b ∷ []) (c ∷ d ∷ []) ∙ append_assoc all (a ∷ []) (b ∷ c ∷ d ∷ []) in
     subst (IsNamed (with_players game games)) flat fourth
@@ -244,11 +244,11 @@ names_order (x ∷ xs) ys one_distinct other_distinct same =
 
 -- ---- together
 
-once : (names : List (List ℕ)) → IsDistinct bytes_eq names → (i j : ℕ) → i < length names → j < length names → name_of names i ≡ name_of names j → i ≡ j
+once : (names : List (List ℕ)) → IsDistinct bytes_eq names → (i j : ℕ) → i < length names → j < length names → name_at names i ≡ name_at names j → i ≡ j
 once names distinct i j inside other_inside same = by_order (nat_lt i j) (nat_lt j i) refl refl
   where
-    not_less : (a b : ℕ) → a < b → b < length names → name_of names a ≡ name_of names b → ⊥
-    not_less a b less within is = not_from_Decides (bytes_eq (name_of names a) (name_of names b)) (bytes_eq-Decides (name_of names a) (name_of names b)) (apart_from_distinct bytes_eq names a b [] distinct less within) is
+    not_less : (a b : ℕ) → a < b → b < length names → name_at names a ≡ name_at names b → ⊥
+    not_less a b less within is = not_from_Decides (bytes_eq (name_at names a) (name_at names b)) (bytes_eq-Decides (name_at names a) (name_at names b)) (apart_from_distinct bytes_eq names a b [] distinct less within) is
 
     by_order : (b c : Bool) → nat_lt i j ≡ b → nat_lt j i ≡ c → i ≡ j
     by_order true c is other = absurd (not_less i j (ltb-true i j is) other_inside same)
@@ -268,5 +268,5 @@ order_of_files_is_free ties one other held other_held taken other_taken same pla
     let names = names_order held.games.names other_held.games.names left.distinct right.distinct
     (λ q. left.any_is q ∙ list_any-IsPermutation (λ (x : NamedResult). bytes_eq q x.name) (all_of one) (all_of other) all ∙ sym (right.any_is q)) in
     order_of_games_is_free ties held.games.names other_held.games.names held.games.results other_held.games.results (results_of held.games (all_of one) left) (results_of other_held.games (all_of other) right) names
-    (subst (λ (l : List NamedResult). IsPermutation l (map (named other_held.games.names) other_held.games.results)) (sym left.named_is) (subst (IsPermutation (all_of one)) (sym right.named_is) all))
+    (subst (λ (l : List NamedResult). IsPermutation l (map (with_its_name other_held.games.names) other_held.games.results)) (sym left.named_is) (subst (IsPermutation (all_of one)) (sym right.named_is) all))
     player other_player inside other_inside is

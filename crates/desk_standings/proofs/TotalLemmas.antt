@@ -13,7 +13,7 @@ use Rattle.riichi_standings.specs.Laws.{sum_of}
 use Rattle.riichi_standings.specs.Tournaments.{Games, name_added, with_name, number_of_player, with_seat, with_table_taken}
 use Rattle.riichi_standings.specs.declared.result.SeatResult.{SeatResult}
 use Rattle.riichi_standings.proofs.Sums.{totals_are_all_points}
-use Rattle.desk_standings.specs.Halls.{Held, nothing_held, TakesInTurn, name_in, with_player, with_players, with_ended}
+use Rattle.desk_standings.specs.Halls.{Held, nothing_held, TakesInTurn, name_in, with_game_of, with_players, with_ended}
 use Rattle.desk_standings.specs.Laws.{game_sum, TotalsAreThoseOfGames, TotalsAddUpToNothing}
 use Rattle.desk_standings.specs.declared.ended.EndedGame.{EndedGame}
 
@@ -63,15 +63,15 @@ seat_more games sum name session place points so_far =
 
 -- ---- a game more
 
-player_more : (game : EndedGame) (games : Games) (sum : ℤ) (player : Player) → SumsUp games sum → SumsUp (with_player game games player) (sum +ℤ (of_player game.finals player).total)
+player_more : (game : EndedGame) (games : Games) (sum : ℤ) (player : Player) → SumsUp games sum → SumsUp (with_game_of game games player) (sum +ℤ (of_player game.finals player).total)
 player_more game games sum player so_far = seat_more games sum (name_in game player) game.session (of_player game.finals player).place (of_player game.finals player).total so_far
 
 players_more : (game : EndedGame) (games : Games) (sum : ℤ) → SumsUp games sum → SumsUp (with_players game games) (sum +ℤ game_sum game)
 players_more game games sum so_far =
     let first = player_more game games sum First so_far in
-    let second = player_more game (with_player game games First) (sum +ℤ game.finals.first.total) Second first in
-    let third = player_more game (with_player game (with_player game games First) Second) ((sum +ℤ game.finals.first.total) +ℤ game.finals.second.total) Third second in
-    let fourth = player_more game (with_player game (with_player game (with_player game games First) Second) Third) (((sum +ℤ game.finals.first.total) +ℤ game.finals.second.total) +ℤ game.finals.third.total) Fourth third in
+    let second = player_more game (with_game_of game games First) (sum +ℤ game.finals.first.total) Second first in
+    let third = player_more game (with_game_of game (with_game_of game games First) Second) ((sum +ℤ game.finals.first.total) +ℤ game.finals.second.total) Third second in
+    let fourth = player_more game (with_game_of game (with_game_of game (with_game_of game games First) Second) Third) (((sum +ℤ game.finals.first.total) +ℤ game.finals.second.total) +ℤ game.finals.third.total) Fourth third in
     record { players = fourth.players; sum_is = (let all = fourth.sum_is in omega (arith, ints)) }
 
 taken_in_turn : (held last : Held) (games : List EndedGame) (sum : ℤ) → SumsUp held.games sum → TakesInTurn held games last → SumsUp last.games (sum +ℤ sum_of game_sum games)

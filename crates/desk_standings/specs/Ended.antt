@@ -90,14 +90,14 @@ IsFaultOfGame given text game why.Refused = (game.is_held ≡ true) ⊎ SaysNoGa
 IsFaultOfGame given text game why.Unfinished = (game.is_held ≡ false) × (game.progress.is_over ≡ false)
 IsFaultOfGame given text game other = ⊥
 
-abbrev pub IsRefused : Why → Type 0
-IsRefused why.Refused = Unit {0}
-IsRefused other = ⊥
+abbrev pub IsGameRefused : Why → Type 0
+IsGameRefused why.Refused = Unit {0}
+IsGameRefused other = ⊥
 
 -- what is said of lines that begin a text: no game has begun, though a line was refused; or the line `game` was refused; or it is the game
 abbrev pub IsFaultOf : Rules → List ℕ → GameDesk → ℕ → Why → Type 0
-IsFaultOf given text NoGame refused reason = (0 < refused) × IsRefused reason
-IsFaultOf given text Refused refused reason = IsRefused reason
+IsFaultOf given text NoGame refused reason = (0 < refused) × IsGameRefused reason
+IsFaultOf given text Refused refused reason = IsGameRefused reason
 IsFaultOf given text (Game game) refused reason = IsFaultOfGame given text game reason
 
 -- the same, or that memory isn't there

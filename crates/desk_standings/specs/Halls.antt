@@ -47,11 +47,11 @@ pub record CanTake (held : Held) (game : EndedGame) : Type 0 where
   pub players : AreFree held game
 
 -- what a player has of a game
-abbrev pub with_player : EndedGame → Games → Player → Games
-with_player game games player = with_seat games (name_in game player) game.session (of_player game.finals player).place (of_player game.finals player).total
+abbrev pub with_game_of : EndedGame → Games → Player → Games
+with_game_of game games player = with_seat games (name_in game player) game.session (of_player game.finals player).place (of_player game.finals player).total
 
 abbrev pub with_players : EndedGame → Games → Games
-with_players game games = with_player game (with_player game (with_player game (with_player game games First) Second) Third) Fourth
+with_players game games = with_game_of game (with_game_of game (with_game_of game (with_game_of game games First) Second) Third) Fourth
 
 abbrev pub with_ended : Held → EndedGame → Held
 with_ended held game = record { rules = Some game.rules; games = with_players game (with_table_taken held.games game.session game.table) }
@@ -76,10 +76,10 @@ IsWant why.Memory = Unit {0}
 IsWant other = ⊥
 
 -- What is refused changes nothing. Where memory isn't there, or there is more than can be counted, a part of the game may be held.
-abbrev pub IsLeft : Held → EndedGame → Why → Held → Type 0
-IsLeft held game why.TooMany after = Unit {0}
-IsLeft held game why.Memory after = Unit {0}
-IsLeft held game other after = IsRefusal held game other × (after ≡ held)
+abbrev pub IsLeftAlone : Held → EndedGame → Why → Held → Type 0
+IsLeftAlone held game why.TooMany after = Unit {0}
+IsLeftAlone held game why.Memory after = Unit {0}
+IsLeftAlone held game other after = IsRefusal held game other × (after ≡ held)
 
 -- ---- games in turn
 
@@ -95,4 +95,4 @@ pub record StopsAt (held : Held) (games : List EndedGame) (why : Why) (last : He
   pub parts : games ≡ front ++ game ∷ behind
   pub before : Held
   pub taken : TakesInTurn held front before
-  pub left : IsLeft before game why last
+  pub left : IsLeftAlone before game why last

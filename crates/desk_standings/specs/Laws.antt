@@ -4,7 +4,7 @@ use Rattle.std.specs.List.{range_with_len}
 use Rattle.riichi_hand.specs.Rules.{Rules}
 use Rattle.riichi_table.specs.Players.{of_player, over_players, sum_over_players}
 use Rattle.riichi_places.specs.Finals.{for_sticks}
-use Rattle.riichi_standings.specs.Laws.{sum_of, name_of, StandAlike}
+use Rattle.riichi_standings.specs.Laws.{sum_of, name_at, StandAlike}
 use Rattle.riichi_standings.specs.Tallies.{total_points_of}
 use Rattle.riichi_standings.specs.declared.places.TieBreak.{TieBreak}
 use Rattle.desk_lines.specs.Lines.{lines}
@@ -33,7 +33,7 @@ TotalsAddUpToNothing = (games : List EndedGame) (held : Held) → TakesInTurn no
 -- the same games in another order, as of files in another order, make the same standings: a player stands as the one of that name does
 abbrev pub OrderOfFilesIsFree : Type 0
 OrderOfFilesIsFree = (ties : TieBreak) (one other : List EndedGame) (held other_held : Held) → TakesInTurn nothing_held one held → TakesInTurn nothing_held other other_held → IsPermutation one other →
-    (player other_player : ℕ) → player < length held.games.names → other_player < length other_held.games.names → name_of held.games.names player ≡ name_of other_held.games.names other_player →
+    (player other_player : ℕ) → player < length held.games.names → other_player < length other_held.games.names → name_at held.games.names player ≡ name_at other_held.games.names other_player →
     StandAlike ties held.games.names held.games.results player other_held.games.names other_held.games.results other_player
 
 -- Nobody has a penalty, and no stick is lost.

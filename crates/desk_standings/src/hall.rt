@@ -84,7 +84,7 @@ impl Hall {
     pub fn take_game(&mut self, game: &EndedGame) -> Result<(), Why>
         ensures ok { OnOk result (spec.CanTake self.old game.now
             × (self.new ≡ spec.with_ended self.old game.now)) }
-        ensures err { IfErr result (λ why. spec.IsLeft self.old game.now why self.new) }
+        ensures err { IfErr result (λ why. spec.IsLeftAlone self.old game.now why self.new) }
     {
         if let Some(why) = self.refusal(game) {
             return Err(why);
@@ -164,7 +164,7 @@ impl Hall {
     /// Takes what a player has of a game.
     fn take_player(&mut self, game: &EndedGame, player: Player) -> Result<(), Why>
         ensures ok { OnOk result (self.new
-            ≡ record self.old { games = spec.with_player game.now self.old.games player }) }
+            ≡ record self.old { games = spec.with_game_of game.now self.old.games player }) }
         ensures err { IfErr result (λ why. spec.IsWant why) }
     {
         let name = game.names.get(player);

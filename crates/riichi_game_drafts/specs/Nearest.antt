@@ -8,29 +8,29 @@ use Rattle.riichi_game_text.specs.Names.{first_player}
 -- ---- words that are nearly the same
 
 -- a letter in small
-abbrev pub small_letter : ℕ → ℕ
-small_letter byte = if nat_le 65 byte && nat_le byte 90 then byte + 32 else byte
+abbrev pub in_small : ℕ → ℕ
+in_small byte = if nat_le 65 byte && nat_le byte 90 then byte + 32 else byte
 
-abbrev pub are_alike : ℕ → ℕ → Bool
-are_alike one other = small_letter one == small_letter other
+abbrev pub are_same_letter : ℕ → ℕ → Bool
+are_same_letter one other = in_small one == in_small other
 
 -- the same but for capital letters
 abbrev pub is_same_small : List ℕ → List ℕ → Bool
 is_same_small [] [] = true
 is_same_small [] (second ∷ name) = false
 is_same_small (first ∷ word) [] = false
-is_same_small (first ∷ word) (second ∷ name) = are_alike first second && is_same_small word name
+is_same_small (first ∷ word) (second ∷ name) = are_same_letter first second && is_same_small word name
 
 -- a name begins with the word, but for capital letters
 abbrev pub begins_small : List ℕ → List ℕ → Bool
 begins_small [] name = true
 begins_small (first ∷ word) [] = false
-begins_small (first ∷ word) (second ∷ name) = are_alike first second && begins_small word name
+begins_small (first ∷ word) (second ∷ name) = are_same_letter first second && begins_small word name
 
 -- the first two letters stand the other way round, and the rest is the same
 abbrev pub is_exchanged_behind : ℕ → List ℕ → ℕ → List ℕ → Bool
 is_exchanged_behind first (third ∷ after) second (fourth ∷ rest) =
-    are_alike first fourth && are_alike third second && is_same_small after rest
+    are_same_letter first fourth && are_same_letter third second && is_same_small after rest
 is_exchanged_behind first after second rest = false
 
 abbrev pub is_exchanged : List ℕ → List ℕ → Bool
@@ -48,7 +48,7 @@ abbrev pub is_slip : List ℕ → List ℕ → Bool
 is_slip [] name = nat_le (length name) 1
 is_slip (first ∷ after) [] = nat_le (length (first ∷ after)) 1
 is_slip (first ∷ after) (second ∷ rest) =
-    if are_alike first second then is_slip after rest else is_other (first ∷ after) after (second ∷ rest) rest
+    if are_same_letter first second then is_slip after rest else is_other (first ∷ after) after (second ∷ rest) rest
 
 -- a word of one letter is near to no other
 abbrev pub is_near : List ℕ → List ℕ → Bool

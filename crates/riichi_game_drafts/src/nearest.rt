@@ -93,7 +93,7 @@ pub(crate) fn bytes_of(name: &Name) -> &[u8]
 
 /// A letter in small.
 pub(crate) fn small_letter(byte: u8) -> u8
-    ensures { result ≡ spec.small_letter byte }
+    ensures { result ≡ spec.in_small byte }
 {
     match byte {
         b'A'..=b'Z' => byte + 32,
@@ -102,7 +102,7 @@ pub(crate) fn small_letter(byte: u8) -> u8
 }
 
 fn are_alike(one: u8, other: u8) -> bool
-    ensures { result ≡ spec.are_alike one other }
+    ensures { result ≡ spec.are_same_letter one other }
 {
     small_letter(one) == small_letter(other)
 }

@@ -6,16 +6,16 @@ abbrev pub here_line : List ℕ → List ℕ
 here_line guess = if length guess == 0 then [] else codes "\n  here " ++ guess
 
 -- what stands before a line to try
-abbrev pub mark_of : List ℕ → List ℕ
-mark_of guess = if length guess == 0 then codes "\n  try: " else codes "\n  guess: "
+abbrev pub game_mark : List ℕ → List ℕ
+game_mark guess = if length guess == 0 then codes "\n  try: " else codes "\n  guess: "
 
 -- and before the words of a line `game`
 abbrev pub game_mark_of : List ℕ → List ℕ
 game_mark_of guess = if length guess == 0 then codes "\n  try: game " else codes "\n  guess: game "
 
 -- Behind the text that stood there stands what is guessed, and a line behind its mark; or neither.
-abbrev pub PutsLine : List ℕ → List ℕ → List ℕ → List ℕ → List ℕ → Type 0
-PutsLine guess mark line before after = (after ≡ before) ⊎ (after ≡ before ++ (here_line guess ++ (mark ++ line)))
+abbrev pub PutsHintLine : List ℕ → List ℕ → List ℕ → List ℕ → List ℕ → Type 0
+PutsHintLine guess mark line before after = (after ≡ before) ⊎ (after ≡ before ++ (here_line guess ++ (mark ++ line)))
 
 -- What is guessed, where something is, and behind it a rest that goes with it.
 pub record IsMadeBy (IsRest : List ℕ → List ℕ → Type 0) (text : List ℕ) : Type 0 where

@@ -124,7 +124,7 @@ impl Begin {
     /// Writes the word that can't be, or what the code says.
     fn push_reason(&self, text: &mut AnswerText, given: Rules, fault: &GameFault)
         requires { array_string_len text.old + MOST_FAULT_WORDS + MOST_WRONG ≤ ANSWER_ROOM }
-        ensures reason { (said : List ℕ) × spec.IsReason given fault.now said
+        ensures reason { (said : List ℕ) × spec.IsBeginReason given fault.now said
             × (text.new.bytes ≡ text.old.bytes ++ said) }
         ensures len { array_string_len text.new
             ≤ array_string_len text.old + MOST_FAULT_WORDS + MOST_WRONG }

@@ -22,7 +22,7 @@ pub(crate) fn push_line(text: &mut AnswerText, guess: &[u8], mark: &str, line: &
     requires mark { length mark.now ≤ MOST_MARK }
     requires line { length line.now ≤ MOST_LINE_SHOWN }
     requires room { array_string_len text.old + MOST_MADE ≤ ANSWER_ROOM }
-    ensures told { spec.PutsLine guess.now mark.now line.now text.old.bytes text.new.bytes }
+    ensures told { spec.PutsHintLine guess.now mark.now line.now text.old.bytes text.new.bytes }
     ensures len { array_string_len text.new ≤ array_string_len text.old + MOST_MADE }
 {
     if let (Some(guess), Some(line)) = (shown_text(guess), shown_text(line)) {
@@ -47,7 +47,7 @@ fn push_guess(text: &mut AnswerText, guess: &str)
 
 /// What stands before a line to try.
 pub(crate) fn mark_of(guess: &[u8]) -> &'static str
-    ensures value { result.now ≡ spec.mark_of guess.now }
+    ensures value { result.now ≡ spec.game_mark guess.now }
     ensures short { length result.now ≤ MOST_MARK }
 {
     if guess.is_empty() {

@@ -67,7 +67,7 @@ pub(crate) enum Reason<'a> {
 pub(crate) fn push_reason(text: &mut AnswerText, names: &Names, draft: &Draft, about: &Refused<'_>)
     requires { array_string_len text.old + MOST_REASON ≤ ANSWER_ROOM }
     ensures words { (reason : List ℕ)
-        × spec.IsReason (names_in names.now) about.now.line.now about.now.fault reason
+        × spec.IsLineReason (names_in names.now) about.now.line.now about.now.fault reason
         × (text.new.bytes ≡ text.old.bytes ++ reason) }
     ensures len { array_string_len text.new ≤ array_string_len text.old + MOST_REASON }
 {
@@ -128,7 +128,7 @@ fn push_words(text: &mut AnswerText, names: &Names, fault: &GameFault, reason: &
     requires room { array_string_len text.old + MOST_REASON ≤ ANSWER_ROOM }
     requires short { spec.IsShort reason.now }
     ensures bytes { text.new.bytes
-        ≡ text.old.bytes ++ spec.reason_words (names_in names.now) fault.now reason.now }
+        ≡ text.old.bytes ++ spec.line_fault_words (names_in names.now) fault.now reason.now }
     ensures len { array_string_len text.new ≤ array_string_len text.old + MOST_REASON }
 {
     match reason {
@@ -147,9 +147,9 @@ fn push_words(text: &mut AnswerText, names: &Names, fault: &GameFault, reason: &
 }
 
 /// Whether a line is the word `undo` alone.
-#[tactic(auto, unfolding(crate::specs::Reasons::says_undo))]
+#[tactic(auto, unfolding(crate::specs::Reasons::is_undo_line))]
 pub(crate) fn says_undo(line: &[u8]) -> bool
-    ensures { result ≡ spec.says_undo (said_in line.now) }
+    ensures { result ≡ spec.is_undo_line (said_in line.now) }
 {
     match next_said(line) {
         None => false,
@@ -315,7 +315,7 @@ fn push_payment(text: &mut AnswerText, points: &str)
 
 /// What a code says.
 pub(crate) fn fault_words(fault: &GameFault) -> &'static str
-    ensures value { result.now ≡ spec.fault_words fault.now }
+    ensures value { result.now ≡ spec.game_fault_words fault.now }
     ensures short { length result.now ≤ MOST_FAULT_WORDS }
 {
     match fault {
@@ -348,7 +348,7 @@ pub(crate) fn fault_words(fault: &GameFault) -> &'static str
 
 /// What is wrong with a hand.
 fn hand_words(fault: &HandFault) -> &'static str
-    ensures value { result.now ≡ spec.hand_words fault.now }
+    ensures value { result.now ≡ spec.hand_fault_words fault.now }
     ensures short { length result.now ≤ MOST_FAULT_WORDS }
 {
     match fault {

@@ -5,13 +5,13 @@ use Rattle.riichi_game_text.specs.GameLines.{GameSaid}
 use Rattle.riichi_game_json.specs.Strings.{four_values, quoted}
 
 -- a number behind the name of its member, where it is said
-abbrev pub number_if : List ℕ → Option ℕ → List ℕ
-number_if name None = []
-number_if name (Some number) = name ++ decimal number
+abbrev pub number_member : List ℕ → Option ℕ → List ℕ
+number_member name None = []
+number_member name (Some number) = name ++ decimal number
 
 -- the names, the points that each begins with, and where the game stands in a tournament
 abbrev pub begun_members : GameSaid → List ℕ
 begun_members said =
     codes "\"answer\":\"game\",\"names\":" ++ four_values (λ player. quoted (of_player said.names player))
     ++ (codes ",\"start\":" ++ decimal said.rules.start)
-    ++ number_if (codes ",\"session\":") said.session ++ number_if (codes ",\"at\":") said.at ++ codes "}"
+    ++ number_member (codes ",\"session\":") said.session ++ number_member (codes ",\"at\":") said.at ++ codes "}"

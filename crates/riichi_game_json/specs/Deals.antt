@@ -8,11 +8,12 @@ use Rattle.riichi_table.specs.declared.outcome.Outcome.TheVariants as outcomes
 use Rattle.riichi_settle.specs.Settled.{moves_of}
 use Rattle.riichi_places.specs.Places.{seat_number}
 use Rattle.riichi_game.specs.declared.game.Progress.{Progress}
+use Rattle.riichi_game_text.specs.Answers.{point_changes}
 use Rattle.riichi_game_reasons.specs.EndReasons.{end_reason}
 use Rattle.riichi_game_reasons.specs.declared.ends.EndReason.{EndReason}
 use Rattle.riichi_game_reasons.specs.declared.ends.EndReason.TheVariants.{Said, Bust, Enough, Stopped, Played}
 use Rattle.riichi_game_json.specs.MoveValues.{moves_json}
-use Rattle.riichi_game_json.specs.States.{table_members, four_points, changes}
+use Rattle.riichi_game_json.specs.States.{table_members, four_points}
 
 -- the word that a line of the outcome begins with
 abbrev pub outcome_word : Outcome → List ℕ
@@ -50,7 +51,7 @@ moves_member rules state outcome = codes ",\"moves\":[" ++ moves_json state.coun
 unfoldable pub deal_members : TableRules → Progress → Progress → Outcome → List ℕ
 deal_members rules before after outcome =
     head_members outcome ++ table_members before.state
-    ++ four_points (codes ",\"changes\":") (changes before.state.points after.state.points)
+    ++ four_points (codes ",\"changes\":") (point_changes before.state.points after.state.points)
     ++ four_points (codes ",\"points\":") after.state.points
     ++ moves_member rules before.state outcome ++ over_member rules before after outcome ++ codes "}"
 
@@ -58,11 +59,11 @@ abbrev pub penalty_members : Player → ℕ → List ℕ
 penalty_members player points =
     (codes "\"answer\":\"penalty\",\"player\":" ++ decimal (seat_number player)) ++ (codes ",\"points\":" ++ decimal points) ++ codes "}"
 
-abbrev pub end_members : List ℕ
-end_members = codes "\"answer\":\"end\"}"
+abbrev pub ended_members : List ℕ
+ended_members = codes "\"answer\":\"end\"}"
 
 -- The answer to an outcome, by how far the game had come before it and has come after it.
 abbrev pub outcome_members : TableRules → Progress → Progress → Outcome → List ℕ
 outcome_members rules before after (outcomes.Penalty player points) = penalty_members player points
-outcome_members rules before after outcomes.End = end_members
+outcome_members rules before after outcomes.End = ended_members
 outcome_members rules before after other = deal_members rules before after other

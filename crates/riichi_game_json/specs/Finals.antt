@@ -6,8 +6,8 @@ use Rattle.riichi_places.specs.declared.finals.FinalPoints.{FinalPoints}
 use Rattle.riichi_game_text.specs.Answers.{signed_text}
 use Rattle.riichi_game_json.specs.Strings.{four_values, quoted}
 
-unfoldable pub place_members : List ℕ → FinalPoints → List ℕ
-place_members name final = (codes "{\"name\":" ++ quoted name) ++ (codes ",\"place\":" ++ decimal final.place)
+unfoldable pub final_place_members : List ℕ → FinalPoints → List ℕ
+final_place_members name final = (codes "{\"name\":" ++ quoted name) ++ (codes ",\"place\":" ++ decimal final.place)
 
 -- the points with the sticks of the end, and the bonus
 unfoldable pub held_members : FinalPoints → List ℕ
@@ -21,7 +21,7 @@ total_member final = codes ",\"total\":" ++ signed_text final.total
 
 -- what a player has at the end, all in points
 unfoldable pub final_json : List ℕ → FinalPoints → List ℕ
-final_json name final = place_members name final ++ held_members final ++ penalty_member final ++ total_member final ++ codes "}"
+final_json name final = final_place_members name final ++ held_members final ++ penalty_member final ++ total_member final ++ codes "}"
 
 -- the sticks that lie, and what each player has, in the order of their numbers
 abbrev pub over_members : ByPlayer (List ℕ) → ℕ → ByPlayer FinalPoints → List ℕ

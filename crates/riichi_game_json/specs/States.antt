@@ -1,6 +1,6 @@
 -- States of a game as members of an object.
-use Rattle.std.specs.Prelude.{List, ℕ, ◌++◌, codes, decimal, ℤ, ◌-ℤ◌}
-use Rattle.riichi_table.specs.Players.{by_players, of_player}
+use Rattle.std.specs.Prelude.{List, ℕ, ◌++◌, codes, decimal, ℤ}
+use Rattle.riichi_table.specs.Players.{of_player}
 use Rattle.riichi_table.specs.declared.player.ByPlayer.{ByPlayer}
 use Rattle.riichi_table.specs.declared.state.GameState.{GameState}
 use Rattle.riichi_places.specs.Places.{seat_number}
@@ -18,10 +18,6 @@ table_members state =
 -- points of each player behind the name of the member
 abbrev pub four_points : List ℕ → ByPlayer ℤ → List ℕ
 four_points name points = name ++ four_values (λ player. signed_text (of_player points player))
-
--- what the points of each change
-abbrev pub changes : ByPlayer ℤ → ByPlayer ℤ → ByPlayer ℤ
-changes before after = by_players (λ player. of_player after player -ℤ of_player before player)
 
 -- the state of a game that isn't over, or that a line took it back to
 unfoldable pub stands_members : GameState → List ℕ

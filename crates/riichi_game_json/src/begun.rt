@@ -58,7 +58,7 @@ fn push_names(text: &mut AnswerText, names: &Names)
 fn push_said(text: &mut AnswerText, name: &str, number: Option<u32>)
     requires room { array_string_len text.old + MOST_SAID ≤ ANSWER_ROOM }
     requires short { length name.now ≤ 11 }
-    ensures bytes { text.new.bytes ≡ text.old.bytes ++ spec.number_if name.now number }
+    ensures bytes { text.new.bytes ≡ text.old.bytes ++ spec.number_member name.now number }
     ensures len { array_string_len text.new ≤ array_string_len text.old + MOST_SAID }
 {
     if let Some(number) = number {

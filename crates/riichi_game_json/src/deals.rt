@@ -6,10 +6,11 @@ ghost use Rattle.riichi_game_json.specs.Deals as spec;
 ghost use Rattle.riichi_game_json.specs.MoveValues.{moves_json};
 
 use crate::moves::{MOST_LISTED_MOVE, push_moves};
-use crate::states::{MOST_FOUR, MOST_TABLE, changes, player_index, push_four, push_table};
+use crate::states::{MOST_FOUR, MOST_TABLE, player_index, push_four, push_table};
 use crate::values::push_natural;
 use riichi_game::Progress;
 use riichi_game_reasons::{EndReason, end_reason};
+use riichi_game_text::point_changes;
 use riichi_settle::moves_of;
 use riichi_table::{GameState, Outcome, Player, TableRules};
 use riichi_text::{ANSWER_ROOM, AnswerText, MOST_U32};
@@ -87,7 +88,7 @@ fn push_deal(
 {
     push_head(text, outcome);
     push_table(text, &before.state);
-    let changes = changes(&before.state.points, &after.state.points);
+    let changes = point_changes(&before.state.points, &after.state.points);
     push_four(text, ",\"changes\":", &changes);
     push_four(text, ",\"points\":", &after.state.points.widened());
     push_all_moves(text, rules, &before.state, outcome);

@@ -1,5 +1,5 @@
 //! States of a game as members of an object.
-ghost use Rattle.std.specs.Prelude.{◌≡◌, ◌+◌, ◌≤◌, ◌++◌, ◌-ℤ◌, length};
+ghost use Rattle.std.specs.Prelude.{◌≡◌, ◌+◌, ◌≤◌, ◌++◌, length};
 ghost use Rattle.arrayvec.specs.ArrayString.{array_string_len};
 ghost use Rattle.riichi_table.specs.Players.{of_player};
 ghost use Rattle.riichi_places.specs.Places.{seat_number};
@@ -111,22 +111,4 @@ fn push_of(text: &mut AnswerText, before: &str, points: &ByPlayer<i64>, player: 
         ≤ array_string_len text.old + length before.now + MOST_I64 }
 {
     push_signed(text, before, points.get(player));
-}
-
-/// What the points of each change.
-pub(crate) fn changes(before: &ByPlayer<i32>, after: &ByPlayer<i32>) -> ByPlayer<i64>
-    ensures { result ≡ spec.changes before.now after.now }
-{
-    ByPlayer {
-        first: change(before, after, Player::First),
-        second: change(before, after, Player::Second),
-        third: change(before, after, Player::Third),
-        fourth: change(before, after, Player::Fourth),
-    }
-}
-
-fn change(before: &ByPlayer<i32>, after: &ByPlayer<i32>, player: Player) -> i64
-    ensures { result ≡ of_player after.now player -ℤ of_player before.now player }
-{
-    i64::from(after.get(player)) - i64::from(before.get(player))
 }

@@ -11,7 +11,7 @@ use Rattle.unicode_width.proofs.Computing.{unicode_width}
 use Rattle.unicode_width.proofs.Rules.{is_simple, str_width-append_simple, str_width-printable}
 use Rattle.riichi_table.specs.declared.player.Player.{Player}
 use Rattle.riichi_table.specs.declared.player.Player.TheVariants.{First, Second, Third, Fourth}
-use Rattle.riichi_game_sheet.specs.Cells.{spaces, width_of, fits, front_within, front, ellipsis, cut, left_cell, right_cell}
+use Rattle.riichi_game_sheet.specs.Cells.{spaces, width_of, fits_in, front_within, front, ellipsis, cut, left_cell, right_cell}
 use Rattle.riichi_game_sheet.specs.Laws.{RowsTakeEightyColumns}
 use Rattle.riichi_game_sheet.specs.declared.rows.TheConstants.{LABEL, TOLD, COLUMN}
 use Rattle.riichi_game_sheet.proofs.Spaces.{width_behind_space, width_behind_spaces, width_around_space}
@@ -26,8 +26,8 @@ record IsWithin (columns : ℕ) (bytes : List ℕ) : Type 0 where
 nothing_wide : width_of [] ≡ 0
 nothing_wide = ap (str_width false) chars-nil ∙ str_width-printable false [] refl
 
-fitting : (columns : ℕ) (bytes : List ℕ) → fits columns bytes ≡ true → IsWithin columns bytes
-unfolding fits
+fitting : (columns : ℕ) (bytes : List ℕ) → fits_in columns bytes ≡ true → IsWithin columns bytes
+unfolding fits_in
 fitting columns bytes is =
     let parts = and_parts (is_utf8 bytes) (nat_le (width_of bytes) columns) is in
     record { is_text = IsUtf8-from_is_utf8 bytes parts.0; within = grind (arith, nat_tests, parts.1) }
@@ -35,9 +35,9 @@ fitting columns bytes is =
 front_is_within : (columns : ℕ) (text : List ℕ) (n : ℕ) → IsWithin columns (front_within columns text n)
 unfolding front_within
 front_is_within columns text zero = record { is_text = IsUtf8-nil; within = omega (arith, nothing_wide) }
-front_is_within columns text (suc n) = by_test (fits columns (take (suc n) text)) refl (front_is_within columns text n)
+front_is_within columns text (suc n) = by_test (fits_in columns (take (suc n) text)) refl (front_is_within columns text n)
   where
-    by_test : (does : Bool) → fits columns (take (suc n) text) ≡ does → IsWithin columns (front_within columns text n)
+    by_test : (does : Bool) → fits_in columns (take (suc n) text) ≡ does → IsWithin columns (front_within columns text n)
         → IsWithin columns (if does then take (suc n) text else front_within columns text n)
     by_test true is shorter = fitting columns (take (suc n) text) is
     by_test false is shorter = shorter

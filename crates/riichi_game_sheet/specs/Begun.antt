@@ -2,7 +2,7 @@
 use Rattle.std.specs.Prelude.{ℕ, List, [], ◌++◌, codes, decimal, Option, None, Some, pos}
 use Rattle.riichi_table.specs.Players.{same_for_all}
 use Rattle.riichi_game_text.specs.GameLines.{GameSaid}
-use Rattle.riichi_game_sheet.specs.Rows.{names_row, row}
+use Rattle.riichi_game_sheet.specs.Rows.{names_row, sheet_row}
 use Rattle.riichi_game_sheet.specs.declared.rows.Written.TheVariants.{Points}
 
 -- a number behind a word, where it is said
@@ -14,4 +14,4 @@ said_text word (Some number) = word ++ decimal number
 abbrev pub begun_rows : GameSaid → List ℕ
 begun_rows said =
     names_row (codes "deal") (said_text (codes "session ") said.session) said.names ++ codes "\n"
-    ++ row (codes "start") (said_text (codes "table ") said.at) Points (same_for_all (pos said.rules.start))
+    ++ sheet_row (codes "start") (said_text (codes "table ") said.at) Points (same_for_all (pos said.rules.start))

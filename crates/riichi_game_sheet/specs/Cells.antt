@@ -11,13 +11,13 @@ abbrev pub width_of : List ℕ → ℕ
 width_of text = str_width false (chars text)
 
 -- bytes that are a text, and take so many columns at most
-unfoldable pub fits : ℕ → List ℕ → Bool
-fits columns bytes = is_utf8 bytes && nat_le (width_of bytes) columns
+unfoldable pub fits_in : ℕ → List ℕ → Bool
+fits_in columns bytes = is_utf8 bytes && nat_le (width_of bytes) columns
 
 -- of the beginnings of so many bytes or fewer the longest that fits
 unfoldable pub front_within : ℕ → List ℕ → ℕ → List ℕ
 front_within columns text zero = []
-front_within columns text (suc n) = if fits columns (take (suc n) text) then take (suc n) text else front_within columns text n
+front_within columns text (suc n) = if fits_in columns (take (suc n) text) then take (suc n) text else front_within columns text n
 
 -- the longest beginning that fits
 abbrev pub front : ℕ → List ℕ → List ℕ

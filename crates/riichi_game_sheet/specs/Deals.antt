@@ -1,8 +1,8 @@
 -- The rows of outcomes, and of the states between them.
-use Rattle.std.specs.Prelude.{ℕ, ◌==◌, List, [], ◌++◌, codes, decimal, Bool, ℤ, pos, ◌-ℤ◌, if◌then◌else◌}
+use Rattle.std.specs.Prelude.{ℕ, ◌==◌, List, [], ◌++◌, codes, decimal, Bool, ℤ, pos, if◌then◌else◌}
 use Rattle.riichi_hand.specs.declared.win.Wind.{Wind}
 use Rattle.riichi_hand.specs.declared.win.Wind.TheVariants.{East, South, West, North}
-use Rattle.riichi_table.specs.Players.{by_players, of_player, of_some, same_for_all, with_player}
+use Rattle.riichi_table.specs.Players.{of_player, of_some, same_for_all, with_player}
 use Rattle.riichi_table.specs.declared.player.Player.{Player}
 use Rattle.riichi_table.specs.declared.player.Player.TheVariants.{First, Second, Third, Fourth}
 use Rattle.riichi_table.specs.declared.player.ByPlayer.{ByPlayer}
@@ -11,8 +11,8 @@ use Rattle.riichi_table.specs.declared.state.GameState.{GameState}
 use Rattle.riichi_table.specs.declared.outcome.Outcome.{Outcome}
 use Rattle.riichi_table.specs.declared.outcome.Outcome.TheVariants.{Ron, Tsumo, Draw, Abort, Chombo, Penalty, Stands, End}
 use Rattle.riichi_settle.specs.Winners.{as_played, wins_of}
-use Rattle.riichi_game_text.specs.Answers.{of_four}
-use Rattle.riichi_game_sheet.specs.Rows.{row}
+use Rattle.riichi_game_text.specs.Answers.{of_four, point_changes}
+use Rattle.riichi_game_sheet.specs.Rows.{sheet_row}
 use Rattle.riichi_game_sheet.specs.declared.rows.Written.TheVariants.{Points, Changes}
 
 -- ---- the label of a deal
@@ -40,45 +40,41 @@ deal_label state =
 
 -- ---- who did what
 
-abbrev pub name_if : Bool → List ℕ → List ℕ
-name_if holds name = if holds then codes " " ++ name else []
+abbrev pub name_where : Bool → List ℕ → List ℕ
+name_where holds name = if holds then codes " " ++ name else []
 
 -- a word, and behind it the names of those of whom something holds; nothing where it holds of nobody
-abbrev pub listed : List ℕ → ByPlayer (List ℕ) → (Player → Bool) → List ℕ
-listed word names holds =
-    if of_some holds then word ++ of_four (λ player. name_if (holds player) (of_player names player)) else []
+abbrev pub names_listed : List ℕ → ByPlayer (List ℕ) → (Player → Bool) → List ℕ
+names_listed word names holds =
+    if of_some holds then word ++ of_four (λ player. name_where (holds player) (of_player names player)) else []
 
 -- how a deal ended, and who did it
-unfoldable pub outcome_told : ByPlayer (List ℕ) → Outcome → List ℕ
-outcome_told names (Ron from wins riichi) = listed (codes "ron") names (wins_of wins)
-outcome_told names (Tsumo winner win riichi) = codes "tsumo " ++ of_player names winner
-outcome_told names (Draw ready nagashi riichi) = codes "draw" ++ listed (codes " nagashi") names (of_player nagashi)
-outcome_told names (Abort riichi) = codes "abort"
-outcome_told names (Chombo player) = codes "chombo " ++ of_player names player
-outcome_told names (Stands state) = codes "stands"
-outcome_told names other = []
+unfoldable pub outcome_shown : ByPlayer (List ℕ) → Outcome → List ℕ
+outcome_shown names (Ron from wins riichi) = names_listed (codes "ron") names (wins_of wins)
+outcome_shown names (Tsumo winner win riichi) = codes "tsumo " ++ of_player names winner
+outcome_shown names (Draw ready nagashi riichi) = codes "draw" ++ names_listed (codes " nagashi") names (of_player nagashi)
+outcome_shown names (Abort riichi) = codes "abort"
+outcome_shown names (Chombo player) = codes "chombo " ++ of_player names player
+outcome_shown names (Stands state) = codes "stands"
+outcome_shown names other = []
 
 -- whose discard was won on, or who was ready
 unfoldable pub beside_told : ByPlayer (List ℕ) → Outcome → List ℕ
 beside_told names (Ron from wins riichi) = codes "from " ++ of_player names from
-beside_told names (Draw ready nagashi riichi) = listed (codes "ready") names (of_player ready)
+beside_told names (Draw ready nagashi riichi) = names_listed (codes "ready") names (of_player ready)
 beside_told names other = []
 
 -- ---- rows
 
--- what the points of each change
-abbrev pub changes : ByPlayer ℤ → ByPlayer ℤ → ByPlayer ℤ
-changes before after = by_players (λ player. of_player after player -ℤ of_player before player)
-
 -- what a deal changes, and below that the points
 abbrev pub deal_rows : ByPlayer (List ℕ) → GameState → ByPlayer ℤ → Outcome → List ℕ
 deal_rows names before after played =
-    row (deal_label before) (outcome_told names played) Changes (changes before.points after) ++ codes "\n"
-    ++ row [] (beside_told names played) Points after
+    sheet_row (deal_label before) (outcome_shown names played) Changes (point_changes before.points after) ++ codes "\n"
+    ++ sheet_row [] (beside_told names played) Points after
 
 -- a penalty in the column of the player
 abbrev pub penalty_row : Player → ℕ → List ℕ
-penalty_row player points = row [] (codes "penalty") Points (with_player (same_for_all (pos 0)) player (pos points))
+penalty_row player points = sheet_row [] (codes "penalty") Points (with_player (same_for_all (pos 0)) player (pos points))
 
 -- An outcome by the state before it and the points after it. A deal is told as it is played under the rules; an `end` by what follows.
 abbrev pub outcome_rows : ByPlayer (List ℕ) → TableRules → GameState → ByPlayer ℤ → Outcome → List ℕ
@@ -88,4 +84,4 @@ outcome_rows names rules before after other = deal_rows names before after (as_p
 
 -- the state of a game that isn't over, or that a line took it back to
 unfoldable pub stands_row : GameState → List ℕ
-stands_row state = row (deal_label state) (codes "stands") Points state.points
+stands_row state = sheet_row (deal_label state) (codes "stands") Points state.points

@@ -5,7 +5,7 @@ use Rattle.riichi_table.specs.declared.player.Player.TheVariants.{First, Second,
 use Rattle.riichi_table.specs.declared.player.ByPlayer.{ByPlayer}
 use Rattle.riichi_places.specs.declared.finals.FinalPoints.{FinalPoints}
 use Rattle.riichi_game_sheet.specs.Cells.{left_cell}
-use Rattle.riichi_game_sheet.specs.Rows.{row}
+use Rattle.riichi_game_sheet.specs.Rows.{sheet_row}
 use Rattle.riichi_game_sheet.specs.declared.ends.Part.{Part}
 use Rattle.riichi_game_sheet.specs.declared.ends.Part.TheVariants as part
 use Rattle.riichi_game_sheet.specs.declared.ends.TheConstants.{SIGNED}
@@ -17,19 +17,19 @@ use Rattle.riichi_game_sheet.specs.declared.rows.Written.TheVariants.{Points, Th
 abbrev pub sticks_left : ℕ → List ℕ
 sticks_left sticks = if sticks == 0 then [] else codes "sticks left: " ++ decimal sticks
 
-abbrev pub part_of : FinalPoints → Part → ℤ
-part_of final part.Points = final.points
-part_of final part.Bonus = final.bonus
-part_of final part.Penalty = pos final.penalty
-part_of final part.Total = final.total
-part_of final part.Place = pos final.place
+abbrev pub part_shown : FinalPoints → Part → ℤ
+part_shown final part.Points = final.points
+part_shown final part.Bonus = final.bonus
+part_shown final part.Penalty = pos final.penalty
+part_shown final part.Total = final.total
+part_shown final part.Place = pos final.place
 
 abbrev pub parts : ByPlayer FinalPoints → Part → ByPlayer ℤ
-parts finals part = by_players (λ player. part_of (of_player finals player) part)
+parts finals part = by_players (λ player. part_shown (of_player finals player) part)
 
 -- a row with a part of each of the four
 unfoldable pub ended_row : List ℕ → List ℕ → Written → ByPlayer FinalPoints → Part → List ℕ
-ended_row label told written finals part = row label told written (parts finals part) ++ codes "\n"
+ended_row label told written finals part = sheet_row label told written (parts finals part) ++ codes "\n"
 
 -- the points with the sticks of the end, what else the final points are made of, and the places; bonus and final points in thousands
 unfoldable pub final_rows : ℕ → ByPlayer FinalPoints → List ℕ

@@ -15,19 +15,19 @@ abbrev pub row_front : List ℕ → List ℕ → List ℕ
 row_front label told = left_cell LABEL label ++ left_cell TOLD told
 
 -- the same with a cell for each of the four
-abbrev pub row_of : List ℕ → List ℕ → (Player → List ℕ) → List ℕ
-row_of label told cell = row_front label told ++ of_four (λ player. right_cell COLUMN (cell player))
+abbrev pub sheet_row_of : List ℕ → List ℕ → (Player → List ℕ) → List ℕ
+sheet_row_of label told cell = row_front label told ++ of_four (λ player. right_cell COLUMN (cell player))
 
 -- the names above their columns
 unfoldable pub names_row : List ℕ → List ℕ → ByPlayer (List ℕ) → List ℕ
-names_row label told names = row_of label told (of_player names)
+names_row label told names = sheet_row_of label told (of_player names)
 
 -- points; what points change, with a sign before a gain; or points as thousands with one decimal
-unfoldable pub digits_of : Written → ℤ → List ℕ
-digits_of Points number = signed_text number
-digits_of Changes number = points_change_text number
-digits_of Thousands number = thousands_text number
+unfoldable pub written_digits : Written → ℤ → List ℕ
+written_digits Points number = signed_text number
+written_digits Changes number = points_change_text number
+written_digits Thousands number = thousands_text number
 
 -- a number for each of the four
-unfoldable pub row : List ℕ → List ℕ → Written → ByPlayer ℤ → List ℕ
-row label told written numbers = row_of label told (λ player. digits_of written (of_player numbers player))
+unfoldable pub sheet_row : List ℕ → List ℕ → Written → ByPlayer ℤ → List ℕ
+sheet_row label told written numbers = sheet_row_of label told (λ player. written_digits written (of_player numbers player))

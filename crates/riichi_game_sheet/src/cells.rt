@@ -99,10 +99,10 @@ fn front(columns: usize, text: &str) -> &str
 }
 
 /// The text of some bytes, where they are one and it takes so many columns at most.
-#[tactic(auto, using(riichi_game_text::proofs::TextLemmas::utf8_tests), unfolding(crate::specs::Cells::fits))]
+#[tactic(auto, using(riichi_game_text::proofs::TextLemmas::utf8_tests), unfolding(crate::specs::Cells::fits_in))]
 fn fitting(columns: usize, bytes: &[u8]) -> Option<&str>
-    ensures { MatchOption result (spec.fits columns bytes.now ≡ false)
-        (λ text. (spec.fits columns bytes.now ≡ true) × (text.now ≡ bytes.now)) }
+    ensures { MatchOption result (spec.fits_in columns bytes.now ≡ false)
+        (λ text. (spec.fits_in columns bytes.now ≡ true) × (text.now ≡ bytes.now)) }
 {
     match str::from_utf8(bytes) {
         Ok(text) if text.width() <= columns => Some(text),

@@ -1,5 +1,5 @@
 //! The rows of outcomes, and of the states between them.
-ghost use Rattle.std.specs.Prelude.{◌≡◌, ◌+◌, ◌≤◌, ◌++◌, ◌-ℤ◌, length};
+ghost use Rattle.std.specs.Prelude.{◌≡◌, ◌+◌, ◌≤◌, ◌++◌, length};
 ghost use Rattle.arrayvec.specs.ArrayString.{array_string_len};
 ghost use Rattle.riichi_table.specs.Players.{of_player};
 ghost use Rattle.riichi_game_text.specs.Answers as answers;
@@ -9,7 +9,7 @@ ghost use Rattle.riichi_game_sheet.specs.Deals as spec;
 use crate::cells::MOST_TOLD;
 use crate::rows::{MOST_LABEL, MOST_ROW, Written, push_row};
 use arrayvec::ArrayString;
-use riichi_game_text::{MOST_NAME, Name, Names};
+use riichi_game_text::{MOST_NAME, Name, Names, point_changes};
 use riichi_hand::Wind;
 use riichi_settle::{as_played, winners};
 use riichi_table::{ByPlayer, GameState, Outcome, Player, TableRules};
@@ -78,7 +78,7 @@ fn push_deal(
     let label = deal_label(before);
     let told = outcome_told(names, played);
     let beside = beside_told(names, played);
-    let changes = changes(&before.points, after);
+    let changes = point_changes(&before.points, after);
     push_row(
         text,
         label.as_str(),
@@ -100,24 +100,6 @@ pub fn push_stands(text: &mut AnswerText, state: &GameState)
     let label = deal_label(state);
     let points = state.points.widened();
     push_row(text, label.as_str(), "stands", Written::Points, &points);
-}
-
-/// What the points of each change.
-fn changes(before: &ByPlayer<i32>, after: &ByPlayer<i32>) -> ByPlayer<i64>
-    ensures { result ≡ spec.changes before.now after.now }
-{
-    ByPlayer {
-        first: change(before, after, Player::First),
-        second: change(before, after, Player::Second),
-        third: change(before, after, Player::Third),
-        fourth: change(before, after, Player::Fourth),
-    }
-}
-
-fn change(before: &ByPlayer<i32>, after: &ByPlayer<i32>, player: Player) -> i64
-    ensures { result ≡ of_player after.now player -ℤ of_player before.now player }
-{
-    i64::from(after.get(player)) - i64::from(before.get(player))
 }
 
 /// The deal of a state: `E2`, with one counter `E2-1`, and with a stick too `E2-1+1`.
@@ -171,9 +153,9 @@ fn push_if_any(label: &mut Label, mark: &str, count: u8)
 }
 
 /// How a deal ended, and who did it.
-#[tactic(auto, unfolding(crate::specs::Deals::outcome_told))]
+#[tactic(auto, unfolding(crate::specs::Deals::outcome_shown))]
 fn outcome_told(names: &Names, played: &Outcome) -> Told
-    ensures { result.bytes ≡ spec.outcome_told (names_in names.now) played.now }
+    ensures { result.bytes ≡ spec.outcome_shown (names_in names.now) played.now }
 {
     let mut told = Told::new();
     match played {
@@ -219,7 +201,7 @@ fn push_with_name(told: &mut Told, word: &str, names: &Names, player: Player)
 fn push_listed(told: &mut Told, word: &str, names: &Names, players: &ByPlayer<bool>)
     requires { array_string_len told.old + length word.now + MOST_NAMED ≤ MOST_TOLD }
     ensures { told.new.bytes ≡ told.old.bytes
-        ++ spec.listed word.now (names_in names.now) (of_player players.now) }
+        ++ spec.names_listed word.now (names_in names.now) (of_player players.now) }
 {
     if players.any() {
         told.push_str(word);
@@ -232,7 +214,7 @@ fn push_listed(told: &mut Told, word: &str, names: &Names, players: &ByPlayer<bo
 
 fn push_name_if(told: &mut Told, holds: bool, name: &Name)
     requires { array_string_len told.old + 1 + MOST_NAME ≤ MOST_TOLD }
-    ensures bytes { told.new.bytes ≡ told.old.bytes ++ spec.name_if holds name.now.bytes }
+    ensures bytes { told.new.bytes ≡ told.old.bytes ++ spec.name_where holds name.now.bytes }
     ensures len { array_string_len told.new ≤ array_string_len told.old + 1 + MOST_NAME }
 {
     if holds {

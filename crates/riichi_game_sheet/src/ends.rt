@@ -125,7 +125,7 @@ fn parts(finals: &ByPlayer<FinalPoints>, part: Part) -> ByPlayer<i64>
 }
 
 fn part_of(of: &FinalPoints, part: Part) -> i64
-    ensures { result ≡ spec.part_of of.now part }
+    ensures { result ≡ spec.part_shown of.now part }
 {
     match part {
         Part::Points => of.points,

@@ -76,7 +76,7 @@ fn push_name(text: &mut AnswerText, names: &Names, player: Player)
 }
 
 /// Writes a row with a number for each of the four.
-#[tactic(auto, unfolding(crate::specs::Rows::row))]
+#[tactic(auto, unfolding(crate::specs::Rows::sheet_row))]
 pub(crate) fn push_row(
     text: &mut AnswerText,
     label: &str,
@@ -88,7 +88,7 @@ pub(crate) fn push_row(
     requires label { length label.now ≤ MOST_LABEL }
     requires told { length told.now ≤ MOST_TOLD }
     ensures bytes { text.new.bytes
-        ≡ text.old.bytes ++ spec.row label.now told.now written numbers.now }
+        ≡ text.old.bytes ++ spec.sheet_row label.now told.now written numbers.now }
     ensures len { array_string_len text.new ≤ array_string_len text.old + MOST_ROW }
 {
     push_front(text, label, told);
@@ -114,16 +114,16 @@ fn push_front(text: &mut AnswerText, label: &str, told: &str)
 fn push_cell(text: &mut AnswerText, written: Written, numbers: &ByPlayer<i64>, player: Player)
     requires { array_string_len text.old + MOST_CELL ≤ ANSWER_ROOM }
     ensures bytes { text.new.bytes
-        ≡ text.old.bytes ++ right_cell COLUMN (spec.digits_of written (of_player numbers.now player)) }
+        ≡ text.old.bytes ++ right_cell COLUMN (spec.written_digits written (of_player numbers.now player)) }
     ensures len { array_string_len text.new ≤ array_string_len text.old + MOST_CELL }
 {
     let digits = digits_of(written, numbers.get(player));
     push_right(text, COLUMN, digits.as_str());
 }
 
-#[tactic(auto, unfolding(crate::specs::Rows::digits_of, riichi_game_text::specs::Answers::signed_text, riichi_game_text::specs::Answers::points_change_text))]
+#[tactic(auto, unfolding(crate::specs::Rows::written_digits, riichi_game_text::specs::Answers::signed_text, riichi_game_text::specs::Answers::points_change_text))]
 fn digits_of(written: Written, number: i64) -> Digits
-    ensures { result.bytes ≡ spec.digits_of written number }
+    ensures { result.bytes ≡ spec.written_digits written number }
 {
     let mut digits = Digits::new();
     match written {

@@ -3,7 +3,7 @@ use Rattle.std.specs.Prelude.{ℕ, List, [], ◌++◌, codes, decimal, ℤ, pos,
 use Rattle.std.specs.Fmt.{signed_decimal}
 use Rattle.riichi_hand.specs.declared.win.Wind.{Wind}
 use Rattle.riichi_hand.specs.declared.win.Wind.TheVariants.{East, South, West, North}
-use Rattle.riichi_table.specs.Players.{of_player}
+use Rattle.riichi_table.specs.Players.{of_player, by_players}
 use Rattle.riichi_table.specs.declared.player.Player.{Player}
 use Rattle.riichi_table.specs.declared.player.Player.TheVariants.{First, Second, Third, Fourth}
 use Rattle.riichi_table.specs.declared.player.ByPlayer.{ByPlayer}
@@ -46,6 +46,10 @@ signed_text number = signed_decimal number
 -- the same with `+` before a gain
 unfoldable pub points_change_text : ℤ → List ℕ
 points_change_text change = (if int_lt (pos 0) change then codes "+" else []) ++ signed_decimal change
+
+-- what the points of each change
+abbrev pub point_changes : ByPlayer ℤ → ByPlayer ℤ → ByPlayer ℤ
+point_changes before after = by_players (λ player. of_player after player -ℤ of_player before player)
 
 abbrev pub changes_text : ByPlayer ℤ → ByPlayer ℤ → List ℕ
 changes_text before after =

@@ -106,6 +106,24 @@ fn push_table(text: &mut AnswerText, state: &GameState)
     push_number(text, state.sticks);
 }
 
+/// What the points of each player change.
+pub fn point_changes(before: &ByPlayer<i32>, after: &ByPlayer<i32>) -> ByPlayer<i64>
+    ensures { result ≡ spec.point_changes before.now after.now }
+{
+    ByPlayer {
+        first: point_change(before, after, Player::First),
+        second: point_change(before, after, Player::Second),
+        third: point_change(before, after, Player::Third),
+        fourth: point_change(before, after, Player::Fourth),
+    }
+}
+
+fn point_change(before: &ByPlayer<i32>, after: &ByPlayer<i32>, player: Player) -> i64
+    ensures { result ≡ of_player after.now player -ℤ of_player before.now player }
+{
+    i64::from(after.get(player)) - i64::from(before.get(player))
+}
+
 /// Writes what a player's points change, behind a space.
 fn push_points_change(
     text: &mut AnswerText,

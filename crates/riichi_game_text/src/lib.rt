@@ -32,14 +32,14 @@ mod won_value;
 mod words;
 
 pub use answers::{
-    MOST_BEGUN, MOST_DEAL, MOST_PENALTY, MOST_STANDS, push_begun, push_deal, push_penalty,
-    push_stands,
+    MOST_BEGUN, MOST_DEAL, MOST_PENALTY, MOST_STANDS, point_changes, push_begun, push_deal,
+    push_penalty, push_stands,
 };
 pub use entry::{AcceptedLine, is_odd, read_entry};
 pub use fault::{GameFault, HandFault, MOST_REFUSED, push_refused};
 pub use final_texts::{MOST_FINAL, MOST_OVER, push_over};
 pub use game_line::{GameLine, read_game};
 pub use listed::players_if_said;
-pub use name::{MOST_NAME, Name, Names};
+pub use name::{MOST_NAME, Name, Names, read_name};
 pub use won_value::{WonValue, won_values};
 pub use words::next_said;

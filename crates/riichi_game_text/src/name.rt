@@ -177,9 +177,10 @@ fn have_equals(first: &[u8], second: &[u8], third: &[u8], fourth: &[u8]) -> bool
         || third == fourth
 }
 
-/// A word that can be a name.
+/// The name that a word is: 1 to [`MOST_NAME`] bytes of UTF-8 without a space, a comma, a colon, `=` or a control byte; it doesn't
+/// begin with `#`.
 #[tactic(auto, unfolding(crate::specs::Names::is_player_name))]
-fn read_name(word: &[u8]) -> Option<Name>
+pub fn read_name(word: &[u8]) -> Option<Name>
     ensures { MatchOption result (spec.is_player_name word.now ≡ false)
         (λ name. (spec.is_player_name word.now ≡ true) × (name.bytes ≡ word.now)) }
 {

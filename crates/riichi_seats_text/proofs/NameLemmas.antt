@@ -4,12 +4,8 @@ use Rattle.std.specs.List.{list_any}
 use Rattle.std.specs.Str.{bytes_eq}
 use Rattle.std.proofs.lemmas.List.{map-append}
 use Rattle.std.proofs.lemmas.List.Folds.{list_any-append}
-use Rattle.std.proofs.lemmas.Str.{IsUtf8-from_is_utf8, is_utf8-from_IsUtf8}
 use Rattle.riichi_game_text.specs.Names.{is_player_name}
 use Rattle.riichi_seats_text.specs.Names.{AreOnce}
-
--- UTF-8 as a test
-pub ruleset utf8_tests = (IsUtf8-from_is_utf8, is_utf8-from_IsUtf8)
 
 neither : (one other : Bool) → (one || other) ≡ false → (one ≡ false) × (other ≡ false)
 neither true other h = (h, cc)

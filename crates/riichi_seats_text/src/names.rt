@@ -1,16 +1,13 @@
 //! A list of names.
-ghost use Rattle.std.specs.Prelude.{◌≡◌, ◌%◌, ◌≤◌, ◌++◌, ◌∷◌, [], true, false, length, map, vec_len, is_ok, if◌then◌else◌, IfOk, IfSome, MatchOption};
-ghost use Rattle.std.specs.List.{list_all, list_any};
-ghost use Rattle.std.specs.Str.{bytes_eq, is_utf8};
-ghost use Rattle.riichi_game_text.specs.Names.{is_player_name, is_player_name_byte};
-ghost use Rattle.riichi_game_text.specs.Words as said;
+ghost use Rattle.std.specs.Prelude.{◌≡◌, ◌%◌, ◌≤◌, ◌++◌, ◌∷◌, [], true, map, vec_len, is_ok, if◌then◌else◌, IfOk, IfSome};
+ghost use Rattle.std.specs.List.{list_any};
+ghost use Rattle.std.specs.Str.{bytes_eq};
+ghost use Rattle.riichi_game_text.specs.Names.{is_player_name};
 ghost use Rattle.riichi_seats_text.specs.Names as spec;
 
-use arrayvec::ArrayString;
-use riichi_game_text::{MOST_NAME, Name, next_said};
+use riichi_game_text::{Name, next_said, read_name};
 use riichi_seats::MOST_PLAYERS;
 use std::alloc::{AllocError, Global};
-use std::str;
 
 /// Why a text is no list of names.
 #[derive(Clone, Copy, Debug, PartialEq, Eq)]
@@ -122,64 +119,4 @@ fn is_among(names: &[Name], word: &[u8]) -> bool
     ensures { result ≡ list_any (λ name. bytes_eq name.bytes word.now) names.now }
 {
     names.iter().any(|name| name.as_str().as_bytes() == word)
-}
-
-/// A word that can be a name.
-#[tactic(auto, unfolding(riichi_game_text::specs::Names::is_player_name))]
-fn read_name(word: &[u8]) -> Option<Name>
-    ensures { MatchOption result (is_player_name word.now ≡ false)
-        (λ name. (is_player_name word.now ≡ true) × (name.bytes ≡ word.now)) }
-{
-    if word.len() < 1
-        || word.len() > MOST_NAME
-        || begins_note(word)
-        || !has_name_bytes_alone(word)
-    {
-        return None;
-    }
-    let text = text_of(word)?;
-    Some(name_of(text))
-}
-
-/// A name that is short enough.
-fn name_of(text: &str) -> Name
-    requires { length text.now ≤ MOST_NAME }
-    ensures { result.bytes ≡ text.now }
-{
-    let mut name = ArrayString::new();
-    name.push_str(text);
-    name
-}
-
-/// The text of some bytes, where they are UTF-8.
-#[tactic(auto, using(crate::proofs::NameLemmas::utf8_tests))]
-fn text_of(word: &[u8]) -> Option<&str>
-    ensures { MatchOption result (is_utf8 word.now ≡ false)
-        (λ text. (is_utf8 word.now ≡ true) × (text.now ≡ word.now)) }
-{
-    match str::from_utf8(word) {
-        Ok(text) => Some(text),
-        Err(_) => None,
-    }
-}
-
-fn begins_note(word: &[u8]) -> bool
-    ensures { result ≡ said.begins_note word.now }
-{
-    match word {
-        [] => false,
-        [first, ..] => *first == b'#',
-    }
-}
-
-fn has_name_bytes_alone(word: &[u8]) -> bool
-    ensures { result ≡ list_all is_player_name_byte word.now }
-{
-    word.iter().all(|byte| is_name_byte(*byte))
-}
-
-fn is_name_byte(byte: u8) -> bool
-    ensures { result ≡ is_player_name_byte byte }
-{
-    byte > b' ' && byte != b',' && byte != b':' && byte != b'=' && byte != 0x7f
 }

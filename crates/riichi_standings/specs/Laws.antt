@@ -35,15 +35,15 @@ pub record NamedResult : Type 0 where
   pub place : ℕ
   pub points : ℤ
 
-abbrev pub name_of : List (List ℕ) → ℕ → List ℕ
-name_of names player = slice_index_or names player []
+abbrev pub name_at : List (List ℕ) → ℕ → List ℕ
+name_at names player = slice_index_or names player []
 
-abbrev pub named : List (List ℕ) → SeatResult → NamedResult
-named names seat = record { name = name_of names seat.player; session = seat.session; place = seat.place; points = seat.points }
+abbrev pub with_its_name : List (List ℕ) → SeatResult → NamedResult
+with_its_name names seat = record { name = name_at names seat.player; session = seat.session; place = seat.place; points = seat.points }
 
 -- Each player has one name, and each result is of one of the players.
 pub record AreResultsOf (names : List (List ℕ)) (results : List SeatResult) : Type 0 where
-  pub once : (one other : ℕ) → one < length names → other < length names → name_of names one ≡ name_of names other → one ≡ other
+  pub once : (one other : ℕ) → one < length names → other < length names → name_at names one ≡ name_at names other → one ≡ other
   pub players : All (λ (seat : SeatResult). seat.player < length names) results
 
 -- A player stands as one of another tournament does: with the same tally, at the same place, behind as many names.
@@ -55,6 +55,6 @@ pub record StandAlike (ties : TieBreak) (names : List (List ℕ)) (results : Lis
 -- the same names and the same results of them, each in another order and the players numbered otherwise, make the same standings
 abbrev pub OrderOfGamesIsFree : Type 0
 OrderOfGamesIsFree = (ties : TieBreak) (names others : List (List ℕ)) (results other_results : List SeatResult) →
-    AreResultsOf names results → AreResultsOf others other_results → IsPermutation names others → IsPermutation (map (named names) results) (map (named others) other_results) →
-    (player other : ℕ) → player < length names → other < length others → name_of names player ≡ name_of others other →
+    AreResultsOf names results → AreResultsOf others other_results → IsPermutation names others → IsPermutation (map (with_its_name names) results) (map (with_its_name others) other_results) →
+    (player other : ℕ) → player < length names → other < length others → name_at names player ≡ name_at others other →
     StandAlike ties names results player others other_results other

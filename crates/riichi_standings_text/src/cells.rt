@@ -10,7 +10,7 @@ use unicode_width::UnicodeWidthStr;
 
 /// Writes so many spaces.
 pub(crate) fn push_spaces(text: &mut String, count: usize) -> Result<(), AllocError>
-    ensures { OnOk result (string_bytes text.new ≡ string_bytes text.old ++ spec.spaces count) }
+    ensures { OnOk result (string_bytes text.new ≡ string_bytes text.old ++ spec.blanks count) }
 {
     for _place in 0..count {
         text.push_str(" ")?;
@@ -30,7 +30,7 @@ pub(crate) fn push_name(text: &mut String, name: &str, columns: usize) -> Result
 /// Writes digits, signs or letters of ASCII at the right of so many columns, behind a space at least.
 pub(crate) fn push_cell(text: &mut String, cell: &str, columns: usize) -> Result<(), AllocError>
     ensures { OnOk result (string_bytes text.new
-        ≡ string_bytes text.old ++ spec.right_cell columns cell.now) }
+        ≡ string_bytes text.old ++ spec.number_cell columns cell.now) }
 {
     push_spaces(text, columns.saturating_sub(cell.len()).max(1))?;
     text.push_str(cell)
@@ -43,7 +43,7 @@ pub(crate) fn push_count_cell(
     columns: usize,
 ) -> Result<(), AllocError>
     ensures { OnOk result (string_bytes text.new
-        ≡ string_bytes text.old ++ spec.right_cell columns (decimal count)) }
+        ≡ string_bytes text.old ++ spec.number_cell columns (decimal count)) }
 {
     let digits = digits_of(count);
     push_cell(text, digits.as_str(), columns)
@@ -57,7 +57,7 @@ pub(crate) fn push_points_cell(
     columns: usize,
 ) -> Result<(), AllocError>
     ensures { OnOk result (string_bytes text.new
-        ≡ string_bytes text.old ++ spec.right_cell columns (points_in_thousands points)) }
+        ≡ string_bytes text.old ++ spec.number_cell columns (points_in_thousands points)) }
 {
     let mut cell = String::new(alloc);
     push_thousands(&mut cell, points)?;

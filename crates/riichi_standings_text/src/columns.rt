@@ -1,4 +1,7 @@
 //! The columns of sessions in standings.
+ghost use Rattle.std.specs.Prelude.{◌≡◌, ◌+◌, ◌≤◌, max};
+ghost use Rattle.riichi_standings_text.specs.Columns as spec;
+
 use riichi_standings::{SeatResult, Standing, Tournament, first_session, last_session, points_in};
 
 /// The columns of sessions: a number for each, from the first to the last.
@@ -12,7 +15,9 @@ pub(crate) struct Columns {
 
 impl Columns {
     /// Those of a tournament.
-    pub(crate) fn of(tournament: &Tournament, list: &[Standing]) -> Columns {
+    pub(crate) fn of(tournament: &Tournament, list: &[Standing]) -> Columns
+        ensures { result ≡ spec.columns_of tournament.now.results list.now }
+    {
         let results = tournament.results();
         let last = last_session(results);
         if last > 0 {
@@ -24,13 +29,24 @@ impl Columns {
         }
         Columns {
             first: 1,
-            last: most_games(list),
+            last: u32::try_from(most_games(list)).unwrap_or(u32::MAX),
             is_said: false,
         }
     }
 
+    /// The number behind that of the last column; that of the first where there is none.
+    pub(crate) fn end(&self) -> u64
+        ensures value { result ≡ max (self.now.last + 1) self.now.first }
+        ensures small { result ≤ 4294967296 }
+    {
+        (u64::from(self.last) + 1).max(u64::from(self.first))
+    }
+
     /// The final points of a player in a column, by the player's own results.
-    pub(crate) fn points(&self, column: u32, own: &[SeatResult]) -> Option<i32> {
+    #[tactic(auto, unfolding(crate::specs::Columns::points_at))]
+    pub(crate) fn points(&self, column: u32, own: &[SeatResult]) -> Option<i32>
+        ensures { result ≡ spec.points_at self.now column own.now }
+    {
         if self.is_said {
             return points_in(column, own);
         }
@@ -42,12 +58,9 @@ impl Columns {
 }
 
 /// How many games the player has played who has played most.
-fn most_games(list: &[Standing]) -> u32 {
-    let mut most = 0;
-    for standing in list {
-        if standing.tally.games > most {
-            most = standing.tally.games;
-        }
-    }
-    u32::try_from(most).unwrap_or(u32::MAX)
+fn most_games(list: &[Standing]) -> usize
+    ensures { result ≡ spec.most_games list.now }
+{
+    list.iter()
+        .fold(0, |most, standing| most.max(standing.tally.games))
 }

@@ -52,11 +52,11 @@ fn push_escaped(text: &mut String, name: &str) -> Result<(), AllocError> {
 /// The member of the sessions, and the end of the object.
 fn push_array(text: &mut String, columns: &Columns, own: &[SeatResult]) -> Result<(), AllocError> {
     text.push_str(",\"sessions\":[")?;
-    for column in columns.first..=columns.last {
-        if column > columns.first {
+    for column in u64::from(columns.first)..columns.end() {
+        if column > u64::from(columns.first) {
             text.push_str(",")?;
         }
-        match columns.points(column, own) {
+        match columns.points(column as u32, own) {
             None => text.push_str("null")?,
             Some(points) => push_points(text, i64::from(points))?,
         }

@@ -78,9 +78,9 @@ impl Sheet {
         push_name(text, "name", self.name)?;
         push_cell(text, "total", TOTAL)?;
         push_cell(text, "games", GAMES)?;
-        for column in self.columns.first..=self.columns.last {
-            self.push_break(text, column)?;
-            push_count_cell(text, u64::from(column), SESSION)?;
+        for column in u64::from(self.columns.first)..self.columns.end() {
+            self.push_break(text, column as u32)?;
+            push_count_cell(text, column, SESSION)?;
         }
         text.push_str("\n")
     }
@@ -101,9 +101,9 @@ impl Sheet {
 
     /// The final points of each column, and the end of the line.
     fn push_sessions(&self, text: &mut String, own: &[SeatResult]) -> Result<(), AllocError> {
-        for column in self.columns.first..=self.columns.last {
-            self.push_break(text, column)?;
-            match self.columns.points(column, own) {
+        for column in u64::from(self.columns.first)..self.columns.end() {
+            self.push_break(text, column as u32)?;
+            match self.columns.points(column as u32, own) {
                 None => push_cell(text, "-", SESSION)?,
                 Some(points) => push_points_cell(self.alloc, text, i64::from(points), SESSION)?,
             }

@@ -37,8 +37,8 @@ fn put_heads(writer: &mut Writer<Vec<u8>>, columns: &Columns) -> Result<(), Erro
     for head in ["place", "name", "total", "games", "firsts", "best"] {
         writer.write_field(head.as_bytes())?;
     }
-    for column in columns.first..=columns.last {
-        put_count(writer, u64::from(column))?;
+    for column in u64::from(columns.first)..columns.end() {
+        put_count(writer, column)?;
     }
     writer.end_record()
 }
@@ -57,8 +57,8 @@ fn put_row(
     put_count(writer, standing.tally.games as u64)?;
     put_count(writer, standing.tally.firsts as u64)?;
     put_points(writer, i64::from(standing.tally.best))?;
-    for column in columns.first..=columns.last {
-        match columns.points(column, own) {
+    for column in u64::from(columns.first)..columns.end() {
+        match columns.points(column as u32, own) {
             None => writer.write_field(b"")?,
             Some(points) => put_points(writer, i64::from(points))?,
         }

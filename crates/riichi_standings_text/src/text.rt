@@ -1,5 +1,7 @@
 //! Standings in words.
-ghost use Rattle.std.specs.Prelude.{◌≡◌, ◌++◌, OnOk, string_bytes};
+ghost use Rattle.std.specs.Prelude.{◌≡◌, ◌++◌, IfOk, OnOk, flat_map, string_bytes};
+ghost use Rattle.riichi_standings.specs.Laws.{name_at};
+ghost use Rattle.riichi_standings_text.specs.Columns.{column_numbers};
 ghost use Rattle.riichi_standings_text.specs.Texts as spec;
 
 use crate::columns::Columns;
@@ -13,16 +15,34 @@ pub fn standings_text(
     alloc: Global,
     tournament: &Tournament,
     list: &[Standing],
-) -> Result<String, AllocError> {
+) -> Result<String, AllocError>
+    ensures { IfOk result (λ text. string_bytes text
+        ≡ spec.standings_text tournament.now list.now) }
+{
     let columns = Columns::of(tournament, list);
     let mut text = String::new(alloc);
     for standing in list {
-        push_place(&mut text, name_of(tournament, standing), standing)?;
-        push_total(&mut text, standing)?;
-        let own = results_of(alloc, standing.player, tournament.results())?;
-        push_columns(&mut text, &columns, own.as_slice())?;
+        push_line(alloc, &mut text, &columns, tournament, standing)?;
     }
     Ok(text)
+}
+
+/// The line of a player.
+#[tactic(auto, unfolding(crate::specs::Texts::standing_line))]
+fn push_line(
+    alloc: Global,
+    text: &mut String,
+    columns: &Columns,
+    tournament: &Tournament,
+    standing: &Standing,
+) -> Result<(), AllocError>
+    ensures { OnOk result (string_bytes text.new
+        ≡ string_bytes text.old ++ spec.standing_line columns.now tournament.now standing.now) }
+{
+    push_place(text, name_of(tournament, standing), standing)?;
+    push_total(text, standing)?;
+    let own = results_of(alloc, standing.player, tournament.results())?;
+    push_sessions(text, columns, own.as_slice())
 }
 
 /// The place and the name.
@@ -48,7 +68,9 @@ fn push_total(text: &mut String, standing: &Standing) -> Result<(), AllocError>
 }
 
 /// The name of a player.
-pub(crate) fn name_of<'t>(tournament: &'t Tournament, standing: &Standing) -> &'t str {
+pub(crate) fn name_of<'t>(tournament: &'t Tournament, standing: &Standing) -> &'t str
+    ensures { result.now ≡ name_at tournament.now.names standing.now.player }
+{
     match tournament.names().get(standing.player as usize) {
         None => "",
         Some(name) => name.as_str(),
@@ -56,18 +78,34 @@ pub(crate) fn name_of<'t>(tournament: &'t Tournament, standing: &Standing) -> &'
 }
 
 /// The final points of each column, and the end of the line.
-fn push_columns(
-    text: &mut String,
-    columns: &Columns,
-    own: &[SeatResult],
-) -> Result<(), AllocError> {
+fn push_sessions(text: &mut String, columns: &Columns, own: &[SeatResult]) -> Result<(), AllocError>
+    ensures { OnOk result (string_bytes text.new
+        ≡ string_bytes text.old ++ spec.sessions_text columns.now own.now) }
+{
     text.push_str(" sessions")?;
-    for column in columns.first..=columns.last {
-        text.push_str(" ")?;
-        match columns.points(column, own) {
-            None => text.push_str("-")?,
-            Some(points) => push_thousands(text, i64::from(points))?,
-        }
-    }
+    push_columns(text, columns, own)?;
     text.push_str("\n")
+}
+
+/// The final points of each column.
+fn push_columns(text: &mut String, columns: &Columns, own: &[SeatResult]) -> Result<(), AllocError>
+    ensures { OnOk result (string_bytes text.new ≡ string_bytes text.old
+        ++ flat_map (spec.column_text columns.now own.now) (column_numbers columns.now)) }
+{
+    for column in u64::from(columns.first)..columns.end() {
+        text.push_str(" ")?;
+        push_points_or_dash(text, columns.points(column as u32, own))?;
+    }
+    Ok(())
+}
+
+/// Points, or a dash for none.
+fn push_points_or_dash(text: &mut String, points: Option<i32>) -> Result<(), AllocError>
+    ensures { OnOk result (string_bytes text.new
+        ≡ string_bytes text.old ++ spec.session_points points) }
+{
+    match points {
+        None => text.push_str("-"),
+        Some(points) => push_thousands(text, i64::from(points)),
+    }
 }

@@ -3,7 +3,7 @@ use Rattle.desk_lines.specs.Lines.{lines}
 use Rattle.desk_games.specs.Texts.{AnswersLines}
 use Rattle.desk_games.specs.declared.desk.GameDesk.{GameDesk}
 use Rattle.desk_games.specs.declared.desk.GameDesk.TheVariants.{NoGame}
-use Rattle.desk_games.proofs.TextLemmas.{told_from_none, tells_games, tells_to_end}
+use Rattle.desk_games.proofs.TextLemmas.{from_none, tells_games, tells_to_end}
 use Rattle.desk_games.proofs.text.games_text_with.Goals as goal
 
 pub returns-in_err-write_end-clause-write_failed : goal.returns-in_err-write_end-clause-write_failed
@@ -11,8 +11,8 @@ returns-in_err-write_end-clause-write_failed g c = λ is.
     let all = c.in_ok-counts.ensures.ok in
     let counts = c.in_ok-counts.counts in
     let new = c.new-games.ensures in
-    let answered = told_from_none c.new-games.result c.args.is_numbered c.args.form c.args.given (lines all.0) all.1 counts c.answer_lines.new.teller.desk new.given new.numbered new.form new.desk all.3.1 in
-    tells_to_end g.R.Source g.W.Sink c.args.is_numbered c.args.form c.args.given c.args.reader.now c.answer_lines.new.reader c.args.writer.now c.answer_lines.new.writer c.write_end.new.writer
+    let answered = from_none (λ number form given first. AnswersLines number form given first (lines all.0) all.1 counts c.answer_lines.new.teller.desk) c.new-games.result c.args.is_numbered c.args.form c.args.given new.given new.numbered new.form new.desk all.3.1 in
+    tells_to_end g.R.Source g.W.Sink c.args.form (AnswersLines c.args.is_numbered c.args.form c.args.given NoGame) c.args.reader.now c.answer_lines.new.reader c.args.writer.now c.answer_lines.new.writer c.write_end.new.writer
     all.0 all.1 counts c.into_desk-desk.result all.2
     (subst (λ (d : GameDesk). AnswersLines c.args.is_numbered c.args.form c.args.given NoGame (lines all.0) all.1 counts d) (sym c.into_desk-desk.ensures) answered) all.4 c.in_err-write_end.ensures.1
 
@@ -21,7 +21,7 @@ returns-clause-ok g c =
     let all = c.in_ok-counts.ensures.ok in
     let counts = c.in_ok-counts.counts in
     let new = c.new-games.ensures in
-    let answered = told_from_none c.new-games.result c.args.is_numbered c.args.form c.args.given (lines all.0) all.1 counts c.answer_lines.new.teller.desk new.given new.numbered new.form new.desk all.3.1 in
-    tells_games g.R.Source g.W.Sink c.args.is_numbered c.args.form c.args.given c.args.reader.now c.answer_lines.new.reader c.args.writer.now c.answer_lines.new.writer c.write_end.new.writer
+    let answered = from_none (λ number form given first. AnswersLines number form given first (lines all.0) all.1 counts c.answer_lines.new.teller.desk) c.new-games.result c.args.is_numbered c.args.form c.args.given new.given new.numbered new.form new.desk all.3.1 in
+    tells_games g.R.Source g.W.Sink c.args.form (AnswersLines c.args.is_numbered c.args.form c.args.given NoGame) c.args.reader.now c.answer_lines.new.reader c.args.writer.now c.answer_lines.new.writer c.write_end.new.writer
     all.0 all.1 counts c.into_desk-desk.result all.2
     (subst (λ (d : GameDesk). AnswersLines c.args.is_numbered c.args.form c.args.given NoGame (lines all.0) all.1 counts d) (sym c.into_desk-desk.ensures) answered) all.4 c.in_ok-write_end.ensures

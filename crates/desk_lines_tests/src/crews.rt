@@ -1,12 +1,10 @@
 //! The answers of many threads beside those of one.
 ghost use Rattle.std.specs.Prelude.{◌<◌};
 
-mod facts;
-
-use super::*;
+use crate::facts::{holds, holds_in, same, same_in};
+use desk_crew::Crew;
 use desk_io::{BytesIn, BytesOut};
 use desk_lines::{DeskFault, Objects, Plain, SuitMemo, TextReport, desk_text_by};
-use facts::{holds, holds_in, same, same_in};
 use riichi_hand::Rules;
 use std::alloc::{AllocError, Global};
 use std::process::Abort;
