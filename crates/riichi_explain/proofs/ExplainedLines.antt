@@ -46,6 +46,7 @@ use Rattle.riichi_explain.specs.declared.explaining.Shown.TheVariants.{BestReadi
 use Rattle.riichi_explain.specs.declared.ranked.RankedReading.{RankedReading}
 use Rattle.riichi_explain.specs.Explanation.{rules_line, reason_lines, win_lines, AreOthers, IsBestText, IsWinText, IsJobText, IsOutcomeText}
 use Rattle.riichi_explain.specs.Han.{han_rows}
+use Rattle.riichi_explain.specs.Notes.{lacks_indicator, is_robbed_twice, are_dragons_called, are_winds_called, no_indicator, robbed, dragons_called, winds_called, note_if, note_lines}
 use Rattle.riichi_explain.specs.Others.{scored_text, ranked_text, other_reading_text}
 use Rattle.riichi_explain.specs.Win.{counted_fu, explained_reading}
 use Rattle.riichi_explain.specs.Forms.{shanten_text, form_text, special_form_text as other_form, shanten_line}
@@ -431,6 +432,21 @@ others-lines (Some best) win said are =
     ap are_indented are.text_is ∙ flat_map-lines (other_reading_text best win) are.ranked
     (λ one. unless-lines (readings.eq one.reading best) (ranked_text win one.reading one.score) (ranked_text-lines win one.reading one.score))
 
+-- ---- notes
+
+note_if-lines : (is_told : Bool) (words : List ℕ) → are_indented words ≡ true → are_indented (note_if is_told words) ≡ true
+note_if-lines true words p = p
+note_if-lines false words p = refl
+
+note_lines-lines : (win : WinParts) → are_indented (note_lines win) ≡ true
+note_lines-lines win =
+    let first = note_if (lacks_indicator win) no_indicator in
+    let second = note_if (is_robbed_twice win) robbed in
+    let third = note_if (are_dragons_called win.melds) dragons_called in
+    let fourth = note_if (are_winds_called win.melds) winds_called in
+    lines-append (first ++ second ++ third) fourth (lines-append (first ++ second) third (lines-append first second (note_if-lines (lacks_indicator win) no_indicator refl) (note_if-lines (is_robbed_twice win) robbed refl))
+    (note_if-lines (are_dragons_called win.melds) dragons_called refl)) (note_if-lines (are_winds_called win.melds) winds_called refl)
+
 -- ---- every explanation
 
 reason_lines-lines : (explanation : WinExplanation) (win : WinParts) → are_indented (reason_lines explanation win) ≡ true
@@ -439,7 +455,9 @@ reason_lines-lines (NoYaku ranked) win = flat_map-lines (λ (one : RankedReading
 reason_lines-lines (NoWin missed) win = missed_lines-lines missed
 
 win_lines-lines : (explanation : WinExplanation) (win : WinParts) → are_indented (win_lines explanation win) ≡ true
-win_lines-lines explanation win = lines-append (rules_line win.rules) (reason_lines explanation win) (rules_line-lines win.rules) (reason_lines-lines explanation win)
+win_lines-lines explanation win =
+    lines-append (rules_line win.rules) (note_lines win ++ reason_lines explanation win) (rules_line-lines win.rules)
+    (lines-append (note_lines win) (reason_lines explanation win) (note_lines-lines win) (reason_lines-lines explanation win))
 
 best_text-lines : (win : WinParts) (said : List ℕ) → IsBestText win said → are_indented said ≡ true
 best_text-lines win said is = ap are_indented is.text_is ∙ win_lines-lines is.explanation win

@@ -1,7 +1,9 @@
 -- The lines of a refusal begin with two spaces, and each ends with its line feed.
 use Rattle.std.proofs.Common.{◌≡◌, ℕ, ◌+◌, ◌-◌, ◌/◌, ◌%◌, ◌<◌, List, [], ◌∷◌, ◌++◌, Bool, true, false, cond, nat_lt, take, replicate, Option, Some, None, inl, inr, refl, ap, ◌∙◌, arith}
-use Rattle.std.specs.Prelude.{codes, ◌||◌, unwrap_or, IfSome}
+use Rattle.std.specs.Prelude.{not, codes, ◌||◌, unwrap_or, IfSome}
 use Rattle.std.specs.List.{list_all, list_any}
+use Rattle.std.specs.Option.{option_or}
+use Rattle.std.specs.Str.{is_utf8}
 use Rattle.std.proofs.lemmas.Bool.{and_parts, or_parts, not-true}
 use Rattle.std.proofs.lemmas.Bool.Decides.{nat_tests}
 use Rattle.riichi_hand.specs.declared.fault.LineCode.{LineCode}
@@ -16,7 +18,7 @@ use Rattle.riichi_hand.specs.Rules.{Rules}
 use Rattle.riichi_refusals.specs.LineWords.{word_at_fault, text_word}
 use Rattle.riichi_refusals.specs.Meaning.{is_long, foreign_at, refusal_words}
 use Rattle.riichi_refusals.specs.Refusal.{named_word, word_line, foreign_lines, missing_text, missing_line, code_lines, place_in, notation_lines, fault_lines, refusal_lines}
-use Rattle.riichi_refusals.specs.Shown.{hex_digit, byte_text, shown, around, shown_line, mark_line, marked_lines}
+use Rattle.riichi_refusals.specs.Shown.{hex_digit, byte_text, shown, hides, has_hidden, is_seen, seen, around, shown_line, seen_around, foreign_text, foreign_line, mark_line, marked_lines, foreign_marked}
 use Rattle.riichi_refusals.proofs.QuietWords.{is_quiet, quiet, refusal_words-quiet, key_name-quiet}
 use Rattle.riichi_explain.proofs.PlainTexts.{plain, after, after3, byte-plain, flat_map-plain, replicate-plain, are_indented, pass, lines-append}
 use Rattle.riichi_hints.specs.Hint.{IsNote, IsPrintable, told_line, said_if, mark_of, IsHintOrNone, IsRefusalText}
@@ -56,6 +58,52 @@ mark_line-lines column words p =
     let printable : 10 < 32 = omega arith in
     pass (replicate column 32 ++ codes "^ " ++ words) (10 ∷ []) (after3 (replicate column 32) (codes "^ ") words (replicate-plain column 32 printable) refl p)
 
+-- ---- texts that are seen as they are
+
+hidden-big : (before byte : ℕ) → hides before byte ≡ false → 10 < byte
+hidden-big before byte e = printable-big byte (or_parts (nat_lt byte 32) _ e).0
+
+unhidden-plain : (before : ℕ) (text : List ℕ) → has_hidden before text ≡ false → plain text ≡ true
+unhidden-plain before [] p = refl
+unhidden-plain before (byte ∷ text) p =
+    let parts = or_parts (hides before byte) (has_hidden byte text) p in
+    byte-plain byte text (hidden-big before byte parts.0) (unhidden-plain byte text parts.1)
+
+seen-plain : (text : List ℕ) → is_seen text ≡ true → plain text ≡ true
+seen-plain text p = unhidden-plain 0 text (not-true _ (and_parts (not (has_hidden 0 text)) (is_utf8 text) p).0)
+
+-- a text, where there is one, has no line feed
+abbrev IsPlainIfAny : Option (List ℕ) → Type 0
+IsPlainIfAny text = IfSome text (λ words. plain words ≡ true)
+
+seen_if-plain : (text : List ℕ) (is : Bool) → is_seen text ≡ is → IsPlainIfAny (cond is (Some text) None)
+seen_if-plain text true e = seen-plain text e
+seen_if-plain text false e = tt
+
+either_seen : (one other : Option (List ℕ)) → IsPlainIfAny one → IsPlainIfAny other → IsPlainIfAny (option_or one other)
+either_seen None other p q = q
+either_seen (Some text) other p q = p
+
+unwrapped-plain : (text : Option (List ℕ)) (other : List ℕ) → IsPlainIfAny text → plain other ≡ true → plain (unwrap_or text other) ≡ true
+unwrapped-plain None other p q = q
+unwrapped-plain (Some text) other p q = p
+
+seen_around-plain : (place : ℕ) (text : List ℕ) → IsPlainIfAny (seen_around place text)
+seen_around-plain place text =
+    let at = λ (more : ℕ). seen_if-plain (around more place text) (is_seen (around more place text)) refl in
+    either_seen (seen (around 36 place text)) _ (at 36) (either_seen (seen (around 35 place text)) _ (at 35) (either_seen (seen (around 34 place text)) (seen (around 33 place text)) (at 34) (at 33)))
+
+foreign_line-lines : (place : ℕ) (text : List ℕ) → are_indented (foreign_line place text) ≡ true
+unfolding foreign_line
+foreign_line-lines place text =
+    pass (foreign_text place text) (10 ∷ []) (unwrapped-plain (seen_around place text) (shown (around 9 place text)) (seen_around-plain place text) (shown-plain (around 9 place text)))
+
+foreign_marked-lines : (place : ℕ) (text words : List ℕ) → plain words ≡ true → are_indented (foreign_marked place text words) ≡ true
+unfolding foreign_marked
+foreign_marked-lines place text words p =
+    let column = place - (place - 36) in
+    lines-append (foreign_line place text) (mark_line column words) (foreign_line-lines place text) (mark_line-lines column words p)
+
 marked_lines-lines : (more place : ℕ) (text words : List ℕ) → plain words ≡ true → are_indented (marked_lines more place text words) ≡ true
 unfolding marked_lines
 marked_lines-lines more place text words p =
@@ -86,8 +134,8 @@ foreign_lines-lines : (line words : List ℕ) → plain words ≡ true → are_i
 unfolding foreign_lines
 foreign_lines-lines line words p =
     let place = unwrap_or (foreign_at line) 0 in
-    elim (is_long line) as (λ test. are_indented (cond test (word_line None words) (marked_lines 9 place line words)) ≡ true)
-    [ true ↦ word_line-lines None words p | false ↦ marked_lines-lines 9 place line words p ]
+    elim (is_long line) as (λ test. are_indented (cond test (word_line None words) (foreign_marked place line words)) ≡ true)
+    [ true ↦ word_line-lines None words p | false ↦ foreign_marked-lines place line words p ]
 
 missing_text-plain : (key : Option Key) → plain (missing_text key) ≡ true
 missing_text-plain None = refl
@@ -128,9 +176,9 @@ note-lines : (P : List ℕ → Type 0) (note : Option (List ℕ)) → IfSome not
 note-lines P None p = refl
 note-lines P (Some words) p = pass words (10 ∷ []) (printable-plain words p.1)
 
-account-lines : (account : List ℕ) → IsPrintable account → are_indented (told_line (codes "  here") (said_if account)) ≡ true
+account-lines : (account : List ℕ) → is_seen account ≡ true → are_indented (told_line (codes "  here") (said_if account)) ≡ true
 account-lines [] p = refl
-account-lines (byte ∷ account) p = pass (codes "here" ++ (byte ∷ account)) (10 ∷ []) (after (codes "here") (byte ∷ account) refl (printable-plain (byte ∷ account) p))
+account-lines (byte ∷ account) p = pass (codes "here" ++ (byte ∷ account)) (10 ∷ []) (after (codes "here") (byte ∷ account) refl (seen-plain (byte ∷ account) p))
 
 shown-lines : (guess : Bool) (shown : List ℕ) → IsPrintable shown → are_indented (told_line (mark_of guess) (Some shown)) ≡ true
 shown-lines true shown p = pass (codes "guess: " ++ shown) (10 ∷ []) (after (codes "guess: ") shown refl (printable-plain shown p))
@@ -142,7 +190,7 @@ hint-lines rules line hint (inr is) =
     let told = is.told in
     let account = told_line (codes "  here") (said_if is.account) in
     let shown = told_line (mark_of is.guess) (Some is.shown) in
-    ap are_indented told.text_is ∙ lines-append account shown (account-lines is.account told.is_printable_too) (shown-lines is.guess is.shown told.is_printable)
+    ap are_indented told.text_is ∙ lines-append account shown (account-lines is.account told.account_is_seen) (shown-lines is.guess is.shown told.is_printable)
 
 pub refusal_text-lines : (rules : Rules) (line : List ℕ) (fault : LineFault) (said : List ℕ) → IsRefusalText rules line fault said → are_indented said ≡ true
 refusal_text-lines rules line fault said is =

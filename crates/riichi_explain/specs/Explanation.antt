@@ -20,6 +20,7 @@ use Rattle.riichi_explain.specs.declared.win.WinExplanation.TheVariants.{Won, No
 use Rattle.riichi_hints.specs.Hint.{IsRefusalText}
 use Rattle.riichi_explain.specs.Forms.{AreFormDistances, shanten_line}
 use Rattle.riichi_explain.specs.Missed.{missed_lines}
+use Rattle.riichi_explain.specs.Notes.{note_lines}
 use Rattle.riichi_explain.specs.Others.{IsOthersText}
 use Rattle.riichi_explain.specs.Text.{won_hand_text, no_yaku_line, line_feed}
 use Rattle.riichi_explain.specs.Waits.{kind_waits, waits_line}
@@ -34,12 +35,12 @@ reason_lines (Won hand) win = won_hand_text hand
 reason_lines (NoYaku ranked) win = no_yaku_lines ranked.items win
 reason_lines (NoWin missed) win = missed_lines missed
 
--- rules that are neither profile have the first line
+-- rules that are neither profile have the first line, and what else is to be said of the win the next
 abbrev pub rules_line : Rules → List ℕ
 rules_line rules = house_words (codes "  rules   ") line_feed rules
 
 abbrev pub win_lines : WinExplanation → WinParts → List ℕ
-win_lines explanation win = rules_line win.rules ++ reason_lines explanation win
+win_lines explanation win = rules_line win.rules ++ (note_lines win ++ reason_lines explanation win)
 
 -- The text says why a win is worth what it is, by the best reading of a hand that scores.
 pub record IsBestText (win : WinParts) (text : List ℕ) : Type 0 where

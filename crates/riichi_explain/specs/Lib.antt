@@ -14,3 +14,4 @@ pub mod Explanation
 pub mod Equality
 pub mod Waits
 pub mod RankedAnswer
+pub mod Notes

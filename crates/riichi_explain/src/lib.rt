@@ -22,6 +22,7 @@ mod forms;
 mod fu;
 mod han;
 mod missed;
+mod notes;
 mod others;
 mod payers;
 mod points_text;

@@ -1,40 +1,30 @@
 -- A plain line, byte by byte.
-use Rattle.std.proofs.Common.{◌≡◌, ◌∙◌, ℕ, zero, suc, ◌+◌, ◌-◌, ◌<◌, ◌≤◌, List, [], ◌∷◌, ◌++◌, Bool, true, false, cond, nat_lt, length, take, get_or, refl, sym, ap, arith}
-use Rattle.std.specs.Prelude.{slice_index}
-use Rattle.std.proofs.lemmas.Bool.{and_parts, ltb-false}
-use Rattle.std.proofs.lemmas.Bool.Decides.{nat_tests}
-use Rattle.std.proofs.lemmas.List.{take_more, length-take-le, get_or-take}
-use Rattle.riichi_hints.specs.Plain.{stays, is_plain_behind}
+use Rattle.std.proofs.Common.{◌≡◌, ◌∙◌, ℕ, ◌+◌, ◌-◌, ◌<◌, ◌≤◌, List, [], ◌∷◌, ◌++◌, Bool, true, length, get_or, refl, sym, ap, arith, append_assoc, length-append}
+use Rattle.std.specs.Prelude.{not}
+use Rattle.std.proofs.lemmas.Bool.{and_parts}
+use Rattle.riichi_hints.specs.Plain.{begins_mark, stays, is_plain_behind}
 
--- the byte before the one at a place, and before the first this one
-abbrev byte_before : ℕ → List ℕ → ℕ → ℕ
-byte_before before line zero = before
-byte_before before line (suc place) = get_or line place 0
+abbrev last_of : List ℕ → ℕ
+last_of text = get_or text (length text - 1) 0
 
-stays_at : (before : ℕ) (line : List ℕ) (place : ℕ) → is_plain_behind before line ≡ true → place < length line → stays (byte_before before line place) (get_or line place 0) ≡ true
-stays_at before [] place is within = absurd (omega arith)
-stays_at before (byte ∷ line) zero is within = (and_parts (stays before byte) (is_plain_behind byte line) is).0
-stays_at before (byte ∷ line) (suc zero) is within = stays_at byte line zero (and_parts (stays before byte) (is_plain_behind byte line) is).1 (omega arith)
-stays_at before (byte ∷ line) (suc (suc place)) is within = stays_at byte line (suc place) (and_parts (stays before byte) (is_plain_behind byte line) is).1 (omega arith)
-
-last_is : (line : List ℕ) (place : ℕ) → place < length line → get_or (take place line) (length (take place line) - 1) 0 ≡ byte_before 0 line place
-last_is line zero within = refl
-last_is line (suc place) within =
-    let whole : length (take (suc place) line) ≡ suc place = length-take-le (suc place) line (omega arith) in
-    let last : length (take (suc place) line) - 1 ≡ place = omega arith in
-    ap (λ (at : ℕ). get_or (take (suc place) line) at 0) last ∙ get_or-take (suc place) line place 0 (omega arith)
+last_is : (text : List ℕ) (byte : ℕ) → last_of (text ++ byte ∷ []) ≡ byte
+last_is [] byte = refl
+last_is (first ∷ text) byte =
+    let parts = length-append text (byte ∷ []) in
+    let one : length (first ∷ (text ++ byte ∷ [])) - 1 ≡ (length (text ++ byte ∷ []) - 1) + 1 = omega (arith, parts) in
+    ap (λ (at : ℕ). get_or (first ∷ (text ++ byte ∷ [])) at 0) one ∙ last_is text byte
 
 -- one byte more
-pub plain_more : (line plain new : List ℕ) (place : ℕ) → is_plain_behind 0 line ≡ true → length line ≤ 512 → place < length line → plain ≡ take place line
-    → (stays (get_or plain (length plain - 1) 0) (get_or line place 0) ≡ true → length plain < 512 → new ≡ plain ++ get_or line place 0 ∷ [])
-    → new ≡ take (place + 1) line
-plain_more line plain new place is few within so_far adds =
-    let whole : length (take place line) ≡ place = length-take-le place line (omega arith) in
-    let as_long : length plain ≡ place = ap length so_far ∙ whole in
-    let last : get_or plain (length plain - 1) 0 ≡ byte_before 0 line place = ap (λ (text : List ℕ). get_or text (length text - 1) 0) so_far ∙ last_is line place within in
-    let keeps : stays (get_or plain (length plain - 1) 0) (get_or line place 0) ≡ true = ap (λ (byte : ℕ). stays byte (get_or line place 0)) last ∙ stays_at 0 line place is within in
-    adds keeps (omega arith) ∙ (ap (λ (text : List ℕ). text ++ get_or line place 0 ∷ []) so_far ∙ sym (take_more line place 0 within))
-
--- a byte beyond ASCII doesn't stay
-pub stays_below : (before byte : ℕ) → stays before byte ≡ true → byte < 128
-stays_below before byte is = grind (arith, nat_tests)
+pub plain_more : (old one new : List ℕ) (byte : ℕ) (rest : List ℕ) → is_plain_behind (last_of old) (byte ∷ rest) ≡ true → length old + length (byte ∷ rest) ≤ 512
+    → (stays (last_of old) byte ≡ true → length old < 512 → one ≡ old ++ byte ∷ [])
+    → (is_plain_behind (last_of one) rest ≡ true → length one + length rest ≤ 512 → new ≡ one ++ rest)
+    → new ≡ old ++ byte ∷ rest
+plain_more old one new byte rest is few adds goes_on =
+    let parts = and_parts (not (begins_mark (byte ∷ rest))) _ is in
+    let both = and_parts (stays (last_of old) byte) (is_plain_behind byte rest) parts.1 in
+    let added : one ≡ old ++ byte ∷ [] = adds both.0 (omega (arith, few)) in
+    let last : last_of one ≡ byte = ap last_of added ∙ last_is old byte in
+    let long = ap length added in
+    let whole = length-append old (byte ∷ []) in
+    goes_on (ap (λ (before : ℕ). is_plain_behind before rest) last ∙ both.1) (omega (arith, few, long, whole))
+    ∙ (ap (λ (text : List ℕ). text ++ rest) added ∙ append_assoc old (byte ∷ []) rest)

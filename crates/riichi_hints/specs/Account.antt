@@ -1,17 +1,18 @@
 -- What became of the words of a refused line in the line that is shown below it: each stands there, is read as something else that is
--- named, or is named as left out; and each word that is shown and that no word is read as is named as a guess.
+-- named, or is named as left out; and each word that is shown and that no word is read as, or for which another may be meant, is named
+-- as a guess.
 use Rattle.std.specs.Prelude.{◌≡◌, ℕ, ◌==◌, ◌+◌, List, [], ◌∷◌, ◌++◌, Bool, true, false, ◌&&◌, ◌||◌, not, Option, None, Some, codes, drop, nat_le, if◌then◌else◌}
 use Rattle.std.specs.List.{list_any}
 use Rattle.std.specs.Str.{bytes_eq}
 use Rattle.riichi_tiles.specs.Melds.{cut_at}
 use Rattle.riichi_hand.specs.declared.line.key.Key.{Key}
-use Rattle.riichi_hand.specs.declared.line.key.Key.TheVariants.{On, By}
+use Rattle.riichi_hand.specs.declared.line.key.Key.TheVariants.{On, By, Seat, Round}
 use Rattle.riichi_hand.specs.Keys.{key_name}
 use Rattle.riichi_hints.specs.declared.account.Account.{Account}
 use Rattle.riichi_hints.specs.declared.account.Fate.{Fate}
 use Rattle.riichi_hints.specs.declared.account.Fate.TheVariants.{Kept, Read, LeftOut}
 use Rattle.riichi_hints.specs.declared.role.Role.{Role}
-use Rattle.riichi_hints.specs.declared.role.Role.TheVariants.{Unread, Job, Hand, Entry, Won}
+use Rattle.riichi_hints.specs.declared.role.Role.TheVariants.{Unread, Job, Hand, Numbered, Entry, Likely, Won, Winds}
 use Rattle.riichi_hints.specs.declared.role.Spot.{Spot}
 use Rattle.riichi_hints.specs.declared.role.Spot.TheVariants.{First, Second, Later}
 
@@ -60,8 +61,11 @@ next_spot spot = Later
 abbrev pub fits : Role → Spot → List ℕ → Bool
 fits Job First word = true
 fits Hand Second word = true
+fits Numbered Second word = true
 fits (Entry key) Later word = has_key key word
+fits (Likely key) Later word = has_key key word
 fits Won Later word = has_key On word || has_key By word
+fits Winds Later word = has_key Seat word || has_key Round word
 fits role spot word = false
 
 -- some word is of a role, from this place on
@@ -69,10 +73,15 @@ abbrev pub is_shown : Role → Spot → List (List ℕ) → Bool
 is_shown role spot [] = false
 is_shown role spot (word ∷ words) = fits role spot word || is_shown role (next_spot spot) words
 
+-- a number of a tile isn't kept, though the hand may have its digits
+abbrev pub is_as_typed : Role → Bool
+is_as_typed Numbered = false
+is_as_typed role = true
+
 -- a word stands in one of a role
 abbrev pub stands_shown : List ℕ → Role → Spot → List (List ℕ) → Bool
 stands_shown word role spot [] = false
-stands_shown word role spot (other ∷ others) = (fits role spot other && stands_in word other) || stands_shown word role (next_spot spot) others
+stands_shown word role spot (other ∷ others) = (is_as_typed role && (fits role spot other && stands_in word other)) || stands_shown word role (next_spot spot) others
 
 abbrev pub spaced_if : Bool → List ℕ → List ℕ
 spaced_if false word = []
@@ -96,6 +105,7 @@ abbrev pub goes_on : Fate → Fate → Bool
 goes_on Kept Kept = true
 goes_on LeftOut LeftOut = true
 goes_on (Read Hand) (Read Hand) = true
+goes_on (Read Numbered) (Read Numbered) = true
 goes_on before fate = false
 
 -- a word that is kept isn't told
@@ -131,9 +141,19 @@ abbrev pub is_later : Spot → Bool
 is_later Later = true
 is_later spot = false
 
--- behind the job and the hand, a word that no word is read as
+-- of a role where another word may be meant as well
+abbrev pub is_likely : Role → Bool
+is_likely (Likely key) = true
+is_likely Winds = true
+is_likely role = false
+
+abbrev pub doubts : Role → Spot → List ℕ → Bool
+doubts role spot word = is_likely role && fits role spot word
+
+-- behind the job and the hand, a word that no word is read as, or one of which another may be meant as well
 abbrev pub is_guess : List Role → Spot → List ℕ → Bool
-is_guess roles spot word = is_later spot && not (list_any (λ role. fits role spot word) roles)
+is_guess roles spot word =
+    is_later spot && (not (list_any (λ role. fits role spot word) roles) || list_any (λ role. doubts role spot word) roles)
 
 abbrev pub has_guess : List Role → Spot → List (List ℕ) → Bool
 has_guess roles spot [] = false

@@ -10,6 +10,7 @@ use Rattle.riichi_hand.specs.Lines.{outcome_of, is_other_byte}
 use Rattle.riichi_hand.specs.Places.{fault_from}
 use Rattle.riichi_hand.specs.Refusals.{key_at, job_at}
 use Rattle.riichi_refusals.specs.Refusal.{refusal_lines}
+use Rattle.riichi_refusals.specs.Shown.{is_seen}
 use Rattle.riichi_text.specs.declared.room.TheConstants.{ANSWER_ROOM}
 use Rattle.riichi_hand.specs.Words.{word_of, words_of}
 use Rattle.riichi_hints.specs.declared.role.Role.{Role}
@@ -88,7 +89,7 @@ said_if text = Some text
 -- the account, where there is one, and below it the line
 pub record HintText (shown account : List ℕ) (guess : Bool) (text : List ℕ) : Type 0 where
   pub is_printable : IsPrintable shown
-  pub is_printable_too : IsPrintable account
+  pub account_is_seen : is_seen account ≡ true
   pub text_is : text ≡ told_line (codes "  here") (said_if account) ++ told_line (mark_of guess) (Some shown)
 
 pub record IsHintText (rules : Rules) (line text : List ℕ) : Type 0 where

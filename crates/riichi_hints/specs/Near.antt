@@ -74,6 +74,7 @@ said_under (meaning.By by) = Some key.By
 said_under (meaning.Flag flag) = Some key.Flags
 said_under meaning.DoubleRiichi = Some key.Riichi
 said_under meaning.Meld = Some key.Open
+said_under meaning.Red = None
 said_under meaning.Unsaid = None
 
 -- The note names the key of a name than which none is nearer to that of the word, and another than the word has.

@@ -204,11 +204,24 @@ pub(crate) fn has_guess(roles: &[Role], spot: Spot, shown: &[u8]) -> bool
     }
 }
 
-/// A word that no word is read as, behind the job and the hand.
+/// A word behind the job and the hand that no word is read as, or one of which another may be meant as well.
 fn is_guess(roles: &[Role], spot: Spot, word: &[u8]) -> bool
     ensures { result ≡ spec.is_guess roles.now spot word.now }
 {
-    matches!(spot, Spot::Later) && !is_read(roles, spot, word)
+    matches!(spot, Spot::Later) && (!is_read(roles, spot, word) || is_doubted(roles, spot, word))
+}
+
+/// Whether a word is read as it of which another may be meant as well.
+fn is_doubted(roles: &[Role], spot: Spot, word: &[u8]) -> bool
+    ensures { result ≡ list_any (λ role. spec.doubts role spot word.now) roles.now }
+{
+    roles.iter().any(|role| doubts(*role, spot, word))
+}
+
+fn doubts(role: Role, spot: Spot, word: &[u8]) -> bool
+    ensures { result ≡ spec.doubts role spot word.now }
+{
+    matches!(role, Role::Likely(_) | Role::Winds) && fits(role, spot, word)
 }
 
 /// Whether a word is read as it.
@@ -246,6 +259,7 @@ fn goes_on(before: Fate, fate: Fate) -> bool
         (Fate::Kept, Fate::Kept) => true,
         (Fate::LeftOut, Fate::LeftOut) => true,
         (Fate::Read(Role::Hand), Fate::Read(Role::Hand)) => true,
+        (Fate::Read(Role::Numbered), Fate::Read(Role::Numbered)) => true,
         _ => false,
     }
 }
@@ -280,10 +294,17 @@ fn stands_shown(word: &[u8], role: Role, spot: Spot, shown: &[u8]) -> bool
     match next_word(shown) {
         None => false,
         Some((other, rest)) => {
-            (fits(role, spot, other) && stands_in(word, other))
+            (is_as_typed(role) && fits(role, spot, other) && stands_in(word, other))
                 || stands_shown(word, role, spot.next(), rest)
         }
     }
+}
+
+/// A number of a tile isn't kept, though the hand may have its digits.
+fn is_as_typed(role: Role) -> bool
+    ensures { result ≡ spec.is_as_typed role }
+{
+    !matches!(role, Role::Numbered)
 }
 
 /// Whether a word in this place is of a role.
@@ -292,9 +313,10 @@ fn fits(role: Role, spot: Spot, word: &[u8]) -> bool
 {
     match (role, spot) {
         (Role::Job, Spot::First) => true,
-        (Role::Hand, Spot::Second) => true,
-        (Role::Entry(key), Spot::Later) => has_key(key, word),
+        (Role::Hand | Role::Numbered, Spot::Second) => true,
+        (Role::Entry(key) | Role::Likely(key), Spot::Later) => has_key(key, word),
         (Role::Won, Spot::Later) => has_key(Key::On, word) || has_key(Key::By, word),
+        (Role::Winds, Spot::Later) => has_key(Key::Seat, word) || has_key(Key::Round, word),
         _ => false,
     }
 }

@@ -3,7 +3,8 @@ use crate::names::{Flag, Meaning};
 use crate::role::{Role, Roles};
 use crate::text::{Part, add, add_all};
 use crate::tiles::add_tiles;
-use crate::values::{by_of, number_of, riichi_of, wind_of};
+use crate::spelled::tile_by_number;
+use crate::values::{by_of, is_dealer, is_hand_of_round, number_of, riichi_of, wind_of};
 use riichi_hand::{By, Flags, JobName, Key};
 use riichi_tiles::is_digit;
 
@@ -31,8 +32,32 @@ pub(crate) struct Draft {
     pub(crate) seen: Part,
     /// The last key that was named, whose value may go on. None of the hand.
     pub(crate) key: Option<Key>,
+    /// The hand's tiles are numbers of two digits.
+    pub(crate) has_numbers: bool,
+    /// The seat is a wind without a key.
+    pub(crate) has_loose_seat: bool,
+    /// How many red fives the hand has besides those that it shows.
+    pub(crate) reds: u8,
+    /// The letters of the suits of such fives, where they are told.
+    pub(crate) red_suits: Part,
+    /// Which word behind the last one isn't read.
+    pub(crate) passes: Passed,
+    /// What the next word means.
+    pub(crate) ahead: Option<Meaning>,
     /// What the words of the line were read as.
     pub(crate) roles: Roles,
+}
+
+/// Which word isn't read.
+#[derive(Clone, Copy, Debug, PartialEq, Eq)]
+pub(crate) enum Passed {
+    Nothing,
+    /// Any word: the one before it takes it back.
+    Word,
+    /// A wind or a number: it belongs to a name that no key says.
+    Value,
+    /// A number: of red fives.
+    Reds,
 }
 
 impl Draft {
@@ -56,12 +81,23 @@ impl Draft {
             sticks: Part::new(),
             seen: Part::new(),
             key: None,
+            has_numbers: false,
+            has_loose_seat: false,
+            reds: 0,
+            red_suits: Part::new(),
+            passes: Passed::Nothing,
+            ahead: None,
             roles: Roles::new(),
         }
     }
 
     /// Takes the value of a key. What is told already isn't told anew.
     pub(crate) fn put(&mut self, key: Key, value: &[u8]) -> Role {
+        let tile = self.by_number(value);
+        let value = match &tile {
+            Some(tile) => tile.as_slice(),
+            None => value,
+        };
         let is_taken = match key {
             Key::On => put_tile(&mut self.on, value),
             Key::By => put_once(&mut self.by, by_of(value)),
@@ -86,13 +122,60 @@ impl Draft {
         }
     }
 
+    /// The tile of two digits, where the hand has such.
+    fn by_number(&self, value: &[u8]) -> Option<Part> {
+        if self.has_numbers { tile_by_number(value) } else { None }
+    }
+
     /// Takes tiles of the hand.
     pub(crate) fn put_hand(&mut self, tiles: &[u8]) -> Role {
         add_tiles(&mut self.hand, tiles);
         Role::Hand
     }
 
-    /// Takes a meld. Which meld its tiles make; four of a kind are concealed where the name says so.
+    /// Takes a wind without a key, which is the seat's before it is the round's.
+    pub(crate) fn put_wind(&mut self, word: &[u8]) -> Role {
+        if self.round.is_empty() && is_hand_of_round(word) {
+            self.put(Key::Round, word)
+        } else if self.seat.is_empty() {
+            self.has_loose_seat = !is_dealer(word);
+            self.put(Key::Seat, word)
+        } else {
+            self.put_second_wind(word)
+        }
+    }
+
+    /// The dealer's wind is none but the seat's. Of two winds without keys either may be the seat's.
+    fn put_second_wind(&mut self, word: &[u8]) -> Role {
+        if is_dealer(word) {
+            self.seat = if self.seat == "E" { "E" } else { "?" };
+            return Role::Entry(Key::Seat);
+        }
+        let is_other = self.seat != wind_of(word);
+        let role = self.put(Key::Round, word);
+        if role != Role::Unread && self.has_loose_seat && is_other {
+            Role::Winds
+        } else {
+            role
+        }
+    }
+
+    /// Takes red fives: how many, or of which suit.
+    pub(crate) fn put_red(&mut self, value: &[u8]) -> Role {
+        match value {
+            [b'0', b'm' | b'p' | b's'] | [b'5', b'm' | b'p' | b's'] => {
+                add(&mut self.red_suits, value[1]);
+                Role::Hand
+            }
+            [b'1'..=b'4'] => {
+                self.reds = value[0] - b'0';
+                Role::Hand
+            }
+            _ => Role::Unread,
+        }
+    }
+
+    /// Takes a meld. Which meld its tiles make; four of a kind are concealed where the name says so, and may be where it says nothing.
     pub(crate) fn put_meld(&mut self, name: &[u8], value: &[u8]) -> Role {
         let tiles = meld_tiles(name, value);
         let word = meld_word(name, tiles.as_slice());
@@ -106,16 +189,17 @@ impl Draft {
         if word != "ankan:" {
             self.is_open = true;
         }
-        Role::Entry(Key::Open)
+        if word == "kan:" && name.is_empty() {
+            Role::Likely(Key::Open)
+        } else {
+            Role::Entry(Key::Open)
+        }
     }
 
     /// Takes what a word means that stands alone, or with a value of yes or no.
     pub(crate) fn take(&mut self, meaning: Meaning) -> Role {
         match meaning {
-            Meaning::Job(job) => {
-                self.job = Some(job);
-                Role::Job
-            }
+            Meaning::Job(job) => self.put_job(job),
             Meaning::Hand => {
                 self.key = None;
                 Role::Hand
@@ -132,12 +216,28 @@ impl Draft {
                 Role::Entry(Key::Riichi)
             }
             Meaning::Meld => self.name(Key::Open),
-            Meaning::Unsaid => Role::Unread,
+            Meaning::Red => {
+                self.reds = self.reds.max(1);
+                self.passes = Passed::Reds;
+                Role::Hand
+            }
+            Meaning::Unsaid => {
+                self.passes = Passed::Value;
+                Role::Unread
+            }
         }
     }
 
+    /// The first job that is named.
+    fn put_job(&mut self, job: JobName) -> Role {
+        if self.job.is_none() {
+            self.job = Some(job);
+        }
+        if self.job == Some(job) { Role::Job } else { Role::Unread }
+    }
+
     /// A key is named, whose value follows.
-    fn name(&mut self, key: Key) -> Role {
+    pub(crate) fn name(&mut self, key: Key) -> Role {
         self.key = Some(key);
         Role::Entry(key)
     }

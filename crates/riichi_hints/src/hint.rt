@@ -4,7 +4,7 @@ ghost use Rattle.std.specs.List.{list_any};
 ghost use Rattle.arrayvec.specs.ArrayString.{array_string_len};
 ghost use Rattle.riichi_hand.specs.Lines.{outcome_of, is_other_byte};
 ghost use Rattle.riichi_hand.specs.Refusals.{IsRefusalOf};
-ghost use Rattle.riichi_hints.specs.Hint.{is_record, IsNote, IsAnswered, IsPrintable, HaveNoPlace, IsNoteUntold, told_line, IsRefusalText, HasItsNote, IsHint, HintText, IsHintOrNone, mark_of};
+ghost use Rattle.riichi_hints.specs.Hint.{is_record, IsNote, IsAnswered, IsPrintable, HaveNoPlace, IsNoteUntold, told_line, said_if, IsRefusalText, HasItsNote, IsHint, HintText, IsHintOrNone, mark_of};
 
 use crate::account::{AccountText, account_of, has_guess};
 use crate::draft::Draft;
@@ -13,7 +13,7 @@ use crate::plain::plain_line;
 use crate::role::Spot;
 use crate::text::{Line, MOST};
 use riichi_hand::{Refusal, Rules, has_other_byte, read_line};
-use riichi_refusals::{MOST_REFUSAL, push_refusal_lines};
+use riichi_refusals::{MOST_REFUSAL, push_refusal_lines, seen};
 use riichi_text::{ANSWER_ROOM, AnswerText};
 
 /// Writes the lines that follow a refusal: the word at fault and what may stand there, a note where more can be said, and a
@@ -53,23 +53,34 @@ fn push_hint(text: &mut AnswerText, rules: Rules, line: &[u8])
     }
 }
 
-/// Writes what became of the words, and below it the line, where they are printable and there is room for both.
+/// Writes what became of the words, and below it the line, where they are seen and there is room for both.
 fn push_tried(text: &mut AnswerText, hint: &Hint)
     ensures { (said : List ℕ)
         × ((said ≡ []) ⊎ (HintText hint.now.line.items hint.now.account.items hint.now.is_guess said))
         × (text.new.bytes ≡ text.old.bytes ++ said) }
 {
-    let (line, account) = (hint.line.as_slice(), hint.account.as_slice());
-    if has_other_byte(line)
-        || has_other_byte(account)
-        || text.remaining_capacity() < line.len() + account.len() + 20
-    {
+    let line = hint.line.as_slice();
+    let Some(account) = seen(hint.account.as_slice()) else {
+        return;
+    };
+    if has_other_byte(line) || text.remaining_capacity() < line.len() + account.len() + 20 {
         return;
     }
-    if !account.is_empty() {
-        push_line(text, "  here", account);
-    }
+    push_account(text, account);
     push_line(text, hint.mark(), line);
+}
+
+/// Writes what became of the words, where there is anything to tell.
+fn push_account(text: &mut AnswerText, account: &str)
+    requires { array_string_len text.old + length account.now + 20 ≤ ANSWER_ROOM }
+    ensures bytes { text.new.bytes ≡ text.old.bytes ++ told_line (codes "  here") (said_if account.now) }
+    ensures len { array_string_len text.new ≤ array_string_len text.old + length account.now + 10 }
+{
+    if !account.is_empty() {
+        text.push_str("  here");
+        text.push_str(account);
+        text.push_str("\n");
+    }
 }
 
 /// A line that is answered, and what became of the words of the refused one in it.

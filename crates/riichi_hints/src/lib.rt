@@ -1,8 +1,8 @@
 //! What a refused line may have been meant to be.
 //!
 //! [`push_refusal`] writes the lines that follow a refusal, and below them `try:` and a line like the refused one that is
-//! answered, where one was found. The line is read loosely into a draft: names as players say them, upper case, tiles that stand
-//! apart, a winning tile that was counted in the hand. The draft is shown only where the rules of the line read it as a record, and
+//! answered, where one was found. The line is read loosely into a draft: names as players say them in some languages and scripts,
+//! upper case, tiles that stand apart, melds without a key, a winning tile that was counted in the hand. The draft is shown only where the rules of the line read it as a record, and
 //! above it stands what became of the words: what is read as something else, what is left out, and what is a guess, in which case
 //! the line stands behind `guess:`. No call takes memory.
 //!
@@ -17,6 +17,7 @@
 mod account;
 mod crowd;
 mod draft;
+mod foreign;
 mod hint;
 mod mending;
 mod names;
@@ -24,6 +25,7 @@ mod notes;
 mod numbers;
 mod plain;
 mod role;
+mod spelled;
 mod text;
 mod tiles;
 mod values;

@@ -2,8 +2,8 @@
 ghost use Rattle.std.specs.Prelude.{◌≡◌, ◌-◌, ◌*◌, ◌≤◌};
 
 use crate::draft::Draft;
-use crate::text::add;
-use crate::tiles::{last_tile, tile_count, without, without_all};
+use crate::text::{Part, add};
+use crate::tiles::{last_tile, reddened, tile_count, without, without_all};
 use riichi_hand::{JobName, Rules, Switch};
 
 impl Draft {
@@ -12,6 +12,7 @@ impl Draft {
         let job = self.likely_job();
         self.job = Some(job);
         self.mend_hand();
+        self.mend_reds();
         if job == JobName::Win {
             self.mend_on();
             self.mend_circumstances(rules);
@@ -47,10 +48,24 @@ impl Draft {
         tile_count(self.hand.as_slice())
     }
 
-    /// Takes the tiles of the melds out of a hand that counted them.
+    /// Takes the tiles of the melds out of a hand that counted them all.
     fn mend_hand(&mut self) {
         if self.hand_count() > self.wanted() + 1 {
-            self.hand = without_all(self.hand.as_slice(), self.called.as_slice());
+            let rest = without_all(self.hand.as_slice(), self.called.as_slice());
+            let called = tile_count(self.called.as_slice());
+            if tile_count(rest.as_slice()) + called == self.hand_count() {
+                self.hand = rest;
+            }
+        }
+    }
+
+    /// Makes fives of the hand red ones. A hand with fewer fives is none.
+    fn mend_reds(&mut self) {
+        for suit in self.red_suits.as_slice() {
+            self.hand = reddened(self.hand.as_slice(), *suit).unwrap_or(Part::new());
+        }
+        for _ in 0..self.reds {
+            self.hand = reddened(self.hand.as_slice(), 0).unwrap_or(Part::new());
         }
     }
 

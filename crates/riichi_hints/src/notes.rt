@@ -52,6 +52,6 @@ fn key_under(meaning: Meaning) -> Option<Key>
         Meaning::Flag(_) => Some(Key::Flags),
         Meaning::DoubleRiichi => Some(Key::Riichi),
         Meaning::Meld => Some(Key::Open),
-        Meaning::Hand | Meaning::Job(_) | Meaning::Unsaid => None,
+        Meaning::Hand | Meaning::Job(_) | Meaning::Red | Meaning::Unsaid => None,
     }
 }

@@ -14,10 +14,16 @@ pub(crate) enum Role {
     Job,
     /// Tiles of the hand.
     Hand,
+    /// A tile of the hand by its number.
+    Numbered,
     /// The word with this key, or a part of it.
     Entry(Key),
+    /// The same, where another word may be meant as well.
+    Likely(Key),
     /// How the hand is won, and on which tile.
     Won,
+    /// One of two winds, of which either may be the seat's.
+    Winds,
 }
 
 impl Default for Role {

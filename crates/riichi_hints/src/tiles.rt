@@ -3,6 +3,7 @@ ghost use Rattle.std.specs.Prelude.{◌≡◌, ◌<◌, IfNone, IfSome};
 ghost use Rattle.riichi_hints.specs.Crowd as spec;
 ghost use Rattle.riichi_hints.specs.Numbers as numbers;
 
+use crate::spelled::spelled;
 use crate::text::{Part, add, add_all, last};
 use riichi_tiles::is_digit;
 
@@ -15,6 +16,8 @@ pub(crate) struct Tile {
 
 /// Whether a word may spell tiles: it ends in a letter, and has digits or capital letters alone, each of a suit or an honour.
 pub(crate) fn are_tiles(word: &[u8]) -> bool {
+    let tiles = spelled(word);
+    let word = tiles.as_slice();
     let spells = word.iter().all(|byte| is_digit(*byte)
         || suit_of(*byte) != 0
         || honour_of(*byte) != 0);
@@ -22,9 +25,14 @@ pub(crate) fn are_tiles(word: &[u8]) -> bool {
     spells && !is_digit(last(word)) && (tile_count(word) > 0 || !lower)
 }
 
+/// Whether a word spells one tile.
+pub(crate) fn is_one_tile(word: &[u8]) -> bool {
+    are_tiles(word) && tile_count(spelled(word).as_slice()) == 1
+}
+
 /// Whether a word has digits alone.
 pub(crate) fn is_number(word: &[u8]) -> bool {
-    word.iter().all(|byte| is_digit(*byte))
+    !word.is_empty() && word.iter().all(|byte| is_digit(*byte))
 }
 
 /// How many tiles a text spells: each digit is one.
@@ -36,7 +44,7 @@ pub(crate) fn tile_count(text: &[u8]) -> usize
 
 /// Adds tiles: behind a digit a letter is that of its suit, elsewhere that of an honour.
 pub(crate) fn add_tiles(tiles: &mut Part, word: &[u8]) {
-    for byte in word {
+    for byte in spelled(word).as_slice() {
         if is_digit(*byte) {
             add(tiles, *byte);
         } else if is_digit(last(tiles.as_slice())) {
@@ -126,6 +134,23 @@ fn add_before(rest: &mut Part, is_new: bool, digit: u8, suit: u8) {
         add(rest, suit);
     }
     add(rest, digit);
+}
+
+/// The text with one of its fives made a red one, of a suit or of any where this is 0; none where it has none.
+pub(crate) fn reddened(text: &[u8], wanted: u8) -> Option<Part> {
+    let mut tiles = Part::new();
+    let mut suit = 0;
+    let mut found = false;
+    for byte in text.iter().rev() {
+        let is_five = *byte == b'5' && suit != b'z' && (wanted == 0 || wanted == suit);
+        if !is_digit(*byte) {
+            suit = *byte;
+        }
+        add(&mut tiles, if is_five && !found { b'0' } else { *byte });
+        found |= is_five;
+    }
+    tiles.as_mut_slice().reverse();
+    if found { Some(tiles) } else { None }
 }
 
 /// The text without the tiles of another text.

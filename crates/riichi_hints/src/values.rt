@@ -1,9 +1,9 @@
 //! The values that are no tiles, as players write them.
 use crate::names::name_of;
 
-/// The winds by their names in English, Japanese, Chinese, German, French and Polish, in small letters (others are left out by
-/// then), by their letters and by their numbers; East also as the dealer.
-const WINDS: [(&str, &str); 43] = [
+/// The winds by their names in English, Japanese, Chinese, German, French, Polish, Spanish and Italian, in small letters without
+/// marks, by their letters and by their numbers; East also as the dealer.
+const WINDS: [(&str, &str); 49] = [
     ("e", "E"),
     ("1", "E"),
     ("east", "E"),
@@ -11,11 +11,12 @@ const WINDS: [(&str, &str); 43] = [
     ("tou", "E"),
     ("higashi", "E"),
     ("dong", "E"),
+    ("tung", "E"),
     ("ost", "E"),
     ("osten", "E"),
     ("est", "E"),
+    ("este", "E"),
     ("wschod", "E"),
-    ("wschd", "E"),
     ("dealer", "E"),
     ("oya", "E"),
     ("s", "S"),
@@ -25,11 +26,10 @@ const WINDS: [(&str, &str); 43] = [
     ("minami", "S"),
     ("sued", "S"),
     ("sueden", "S"),
-    ("sd", "S"),
-    ("sden", "S"),
+    ("suden", "S"),
     ("sud", "S"),
+    ("sur", "S"),
     ("poludnie", "S"),
-    ("poudnie", "S"),
     ("w", "W"),
     ("3", "W"),
     ("west", "W"),
@@ -39,25 +39,57 @@ const WINDS: [(&str, &str); 43] = [
     ("nishi", "W"),
     ("xi", "W"),
     ("ouest", "W"),
+    ("ovest", "W"),
+    ("oeste", "W"),
     ("zachod", "W"),
-    ("zachd", "W"),
     ("n", "N"),
     ("4", "N"),
     ("north", "N"),
     ("pei", "N"),
+    ("pe", "N"),
     ("kita", "N"),
     ("bei", "N"),
+    ("nord", "N"),
+    ("norden", "N"),
+    ("norte", "N"),
+    ("polnoc", "N"),
 ];
 
-/// The wind that a word names; also with a number behind its letter, as `E1`.
+/// Words that take back the one behind them.
+const NEGATIONS: [&str; 10] = [
+    "no", "not", "non", "without", "kein", "keine", "ohne", "sans", "bez", "nie",
+];
+
+/// The wind that a word names; also with the number of a hand behind it, as `E1` and `east-1`.
 pub(crate) fn wind_named(word: &[u8]) -> Option<&'static str> {
     let name = name_of(word)?;
     match name.as_slice() {
-        [b'e', b'1'..=b'4'] => Some("E"),
-        [b's', b'1'..=b'4'] => Some("S"),
-        [b'w', b'1'..=b'4'] => Some("W"),
-        [b'n', b'1'..=b'4'] => Some("N"),
+        [wind @ .., b'1'..=b'4'] if !wind.is_empty() => wind_of_name(wind),
         name => wind_of_name(name),
+    }
+}
+
+/// Whether a word names a wind with the number of a hand behind it: it is the wind of the round.
+pub(crate) fn is_hand_of_round(word: &[u8]) -> bool {
+    matches!(word, [_, .., b'1'..=b'4']) && wind_named(word).is_some()
+}
+
+/// Whether a word names the dealer.
+pub(crate) fn is_dealer(word: &[u8]) -> bool {
+    match name_of(word) {
+        Some(name) => matches!(name.as_slice(), b"dealer" | b"oya"),
+        None => false,
+    }
+}
+
+/// Whether a word takes back the one behind it.
+pub(crate) fn is_negation(word: &[u8]) -> bool {
+    match name_of(word) {
+        Some(name) => {
+            let name = name.as_slice();
+            NEGATIONS.iter().any(|known| known.as_bytes() == name)
+        }
+        None => false,
     }
 }
 

@@ -1,1 +1,2 @@
 pub mod QuietWords
+mod TextLemmas

@@ -11,7 +11,7 @@ use Rattle.riichi_hand.specs.Keys.{key_name, text_key}
 use Rattle.riichi_hand.specs.Refusals.{key_at}
 use Rattle.riichi_refusals.specs.LineWords.{word_at_fault, text_word}
 use Rattle.riichi_refusals.specs.Meaning.{is_long, foreign_at, refusal_words, long_words_alike}
-use Rattle.riichi_refusals.specs.Shown.{shown, marked_lines}
+use Rattle.riichi_refusals.specs.Shown.{shown, marked_lines, foreign_marked}
 
 -- the first 72 bytes of a word that is at fault
 unfoldable pub named_word : Option (List ℕ) → List ℕ
@@ -23,7 +23,7 @@ word_line word words = codes "  " ++ named_word word ++ words ++ codes "\n"
 
 -- the place of the first byte that is no printable ASCII; a line that is too long isn't shown
 unfoldable pub foreign_lines : List ℕ → List ℕ → List ℕ
-foreign_lines line words = if is_long line then word_line None words else marked_lines 9 (unwrap_or (foreign_at line) 0) line words
+foreign_lines line words = if is_long line then word_line None words else foreign_marked (unwrap_or (foreign_at line) 0) line words
 
 abbrev pub missing_text : Option Key → List ℕ
 missing_text None = []
@@ -59,7 +59,7 @@ refusal_lines line fault = fault_lines line fault (refusal_words line fault)
 -- lines of more than 4,096 bytes are answered alike
 long_foreign : (line words : List ℕ) → 4096 < length line → foreign_lines line words ≡ word_line None words
 unfolding foreign_lines
-long_foreign line words long = ap (λ (is : Bool). if is then word_line None words else marked_lines 9 (unwrap_or (foreign_at line) 0) line words) (lt-ltb 4096 (length line) long)
+long_foreign line words long = ap (λ (is : Bool). if is then word_line None words else foreign_marked (unwrap_or (foreign_at line) 0) line words) (lt-ltb 4096 (length line) long)
 
 pub long_refusals_alike : (line other : List ℕ) → 4096 < length line → 4096 < length other → refusal_lines line (Line H1) ≡ refusal_lines other (Line H1)
 unfolding refusal_lines fault_lines code_lines

@@ -5,7 +5,9 @@ ghost use Rattle.riichi_hand.specs.Refusals.{IsRefusalOf};
 ghost use Rattle.riichi_refusals.specs.Refusal as spec;
 
 use crate::meaning::{foreign_at, refusal_words};
-use crate::shown::{BEFORE, MOST_MARKED, MOST_SHOWN, SHOWN, front, push_marked, push_shown};
+use crate::shown::{
+    BEFORE, MOST_MARKED, MOST_SHOWN, SHOWN, front, push_foreign, push_marked, push_shown,
+};
 use crate::words::MOST_FAULT_WORDS;
 use riichi_hand::{Key, LineCode, LineFault, MOST_LINE, Refusal};
 use riichi_text::{ANSWER_ROOM, AnswerText};
@@ -18,7 +20,7 @@ const MOST_NAMED_WORD: usize = MOST_SHOWN + ": ".len();
 const MOST_MISSING: usize = Key::MOST_NAME + " is missing: ".len();
 
 /// Writes the lines of a refusal: the word of the line that is at fault, and what may stand there. All that it writes is
-/// printable, and each of its lines begins with two spaces.
+/// seen, and each of its lines begins with two spaces.
 #[tactic(auto, unfolding(crate::specs::Refusal::refusal_lines, crate::specs::Refusal::fault_lines, crate::specs::Refusal::code_lines, riichi_hand::specs::Refusals::key_at))]
 pub fn push_refusal_lines(text: &mut AnswerText, line: &[u8], refusal: &Refusal<'_>)
     requires room { array_string_len text.old + MOST_REFUSAL ≤ ANSWER_ROOM }
@@ -77,7 +79,7 @@ fn push_foreign_lines(text: &mut AnswerText, line: &[u8], words: &str)
     if line.len() > MOST_LINE {
         push_word_line(text, None, words);
     } else {
-        push_marked(text, line, foreign_at(line).unwrap_or(0), 9, words);
+        push_foreign(text, line, foreign_at(line).unwrap_or(0), words);
     }
 }
 

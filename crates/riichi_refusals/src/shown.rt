@@ -1,5 +1,6 @@
-//! What is shown of a line: printable, and of few columns.
-ghost use Rattle.std.specs.Prelude.{◌≡◌, ◌+◌, ◌/◌, ◌%◌, ◌≤◌, ◌<◌, ◌++◌, ◌∷◌, [], length, take, drop, replicate};
+//! What is shown of a line: seen as it is written there, and of few columns.
+ghost use Rattle.std.specs.Prelude.{◌≡◌, ◌+◌, ◌/◌, ◌%◌, ◌≤◌, ◌<◌, ◌++◌, ◌∷◌, [], true, false, IfSome, MatchOption, length, option_map, take, drop, replicate};
+ghost use Rattle.std.specs.Str.{is_utf8};
 ghost use Rattle.arrayvec.specs.ArrayString.{array_string_len};
 ghost use Rattle.riichi_refusals.specs.Shown as spec;
 
@@ -42,6 +43,91 @@ pub(crate) fn push_marked(
 {
     push_shown_line(out, around(text, place, after));
     push_mark_line(out, place - place.saturating_sub(BEFORE), words);
+}
+
+/// The same around the first byte of a line that is no printable ASCII.
+#[tactic(auto, unfolding(crate::specs::Shown::foreign_marked))]
+pub(crate) fn push_foreign(out: &mut AnswerText, line: &[u8], place: usize, words: &str)
+    requires room { array_string_len out.old + MOST_MARKED ≤ ANSWER_ROOM }
+    requires words { length words.now ≤ MOST_FAULT_WORDS }
+    ensures { out.new.bytes ≡ out.old.bytes ++ spec.foreign_marked place line.now words.now }
+{
+    push_foreign_line(out, line, place);
+    push_mark_line(out, place - place.saturating_sub(BEFORE), words);
+}
+
+#[tactic(auto, unfolding(crate::specs::Shown::foreign_line))]
+fn push_foreign_line(out: &mut AnswerText, line: &[u8], place: usize)
+    requires room { array_string_len out.old + MOST_SHOWN_LINE ≤ ANSWER_ROOM }
+    ensures bytes { out.new.bytes ≡ out.old.bytes ++ spec.foreign_line place line.now }
+    ensures len { array_string_len out.new ≤ array_string_len out.old + MOST_SHOWN_LINE }
+{
+    out.push_str("  ");
+    push_foreign_text(out, line, place);
+    out.push_str("\n");
+}
+
+fn push_foreign_text(out: &mut AnswerText, line: &[u8], place: usize)
+    requires { array_string_len out.old + MOST_SHOWN ≤ ANSWER_ROOM }
+    ensures bytes { out.new.bytes ≡ out.old.bytes ++ spec.foreign_text place line.now }
+    ensures len { array_string_len out.new ≤ array_string_len out.old + MOST_SHOWN }
+{
+    match seen_around(line, place) {
+        Some(text) => out.push_str(text),
+        None => push_shown(out, around(line, place, 9)),
+    }
+}
+
+fn seen_around(line: &[u8], place: usize) -> Option<&str>
+    ensures value { option_map (λ text. text.now) result ≡ spec.seen_around place line.now }
+    ensures short { IfSome result (λ text. length text.now ≤ SHOWN) }
+{
+    let (whole, less) = (around(line, place, BEFORE), around(line, place, BEFORE - 1));
+    let (shorter, shortest) = (around(line, place, BEFORE - 2), around(line, place, BEFORE - 3));
+    seen(whole).or(seen(less)).or(seen(shorter)).or(seen(shortest))
+}
+
+/// A text whose characters are seen as they are, in whatever script; none where a byte is of no character, or where one controls
+/// terminals, parts lines, turns their direction or has no width. U+0080 to U+00BF and U+2000 to U+207F are taken for such.
+pub fn seen(text: &[u8]) -> Option<&str>
+    ensures { option_map (λ text. text.now) result ≡ spec.seen text.now }
+{
+    if has_hidden(0, text) {
+        return None;
+    }
+    text_of(text)
+}
+
+/// The text of some bytes, where they are UTF-8.
+#[tactic(auto, using(crate::proofs::TextLemmas::utf8_tests))]
+fn text_of(bytes: &[u8]) -> Option<&str>
+    ensures { MatchOption result (is_utf8 bytes.now ≡ false)
+        (λ text. (is_utf8 bytes.now ≡ true) × (text.now ≡ bytes.now)) }
+{
+    match std::str::from_utf8(bytes) {
+        Ok(text) => Some(text),
+        Err(_) => None,
+    }
+}
+
+/// Whether one of the bytes behind another isn't seen.
+fn has_hidden(before: u8, text: &[u8]) -> bool
+    ensures { result ≡ spec.has_hidden before text.now }
+{
+    match text {
+        [] => false,
+        [byte, rest @ ..] => hides(before, *byte) || has_hidden(*byte, rest),
+    }
+}
+
+fn hides(before: u8, byte: u8) -> bool
+    ensures { result ≡ spec.hides before byte }
+{
+    byte < b' '
+        || byte == 127
+        || byte == 194
+        || before == 226 && byte < 130
+        || before == 239 && byte == 187
 }
 
 #[tactic(auto, unfolding(crate::specs::Shown::shown_line))]

@@ -60,7 +60,7 @@ impl Room {
     fn told(&mut self, call: Call, line: &[u8], rules: Rules) -> &str {
         // SAFETY: the pointers are those of slices, so they are valid for their lengths and not null, and a `&mut` overlaps nothing.
         let needed = unsafe { call(rules.number(), line.as_ptr(), line.len(), self.0.as_mut_ptr(), self.0.len()) };
-        str::from_utf8(&self.0[..needed]).expect("answers are ASCII")
+        str::from_utf8(&self.0[..needed]).expect("answers are UTF-8")
     }
 
     /// The answer to one line in the words of the command `line`; `None` where the line is a comment or blank.
@@ -138,7 +138,7 @@ fn answered(call: CallOfLines, most: usize, text: &[u8], rules: Rules) -> String
         told.truncate(filled + more);
         start += taken;
     }
-    String::from_utf8(told).expect("answers are ASCII")
+    String::from_utf8(told).expect("answers are UTF-8")
 }
 
 /// The answers to a whole text of lines, as the command `line` writes them: each with a line feed, and nothing for a comment or a

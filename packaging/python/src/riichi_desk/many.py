@@ -80,7 +80,7 @@ def _many(call: Any, given: list[Line], rules: int) -> list[str | None]:
     """What a call for many lines answers to each; None to a line that says nothing."""
     told: list[str | None] = []
     for piece in _pieces(call, _joined(given), rules):
-        told += str(piece, "ascii").split("\n")
+        told += str(piece, "utf-8").split("\n")
         told.pop()
     if len(told) == len(given):
         return told

@@ -16,7 +16,7 @@ from .values import Answer, read
 def _told(call: Any, line: Line, rules: Profile) -> str | None:
     given, room = bytes_of(line), ROOMS.room
     needed = call(rules_of(rules), given, len(given), room, MOST)
-    return ctypes.string_at(room, needed).decode("ascii") if needed else None
+    return ctypes.string_at(room, needed).decode("utf-8") if needed else None
 
 
 def text(line: Line, rules: Profile = 1) -> str | None:

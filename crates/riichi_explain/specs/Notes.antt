@@ -1,0 +1,53 @@
+-- What else is to be said of a win.
+use Rattle.std.specs.Prelude.{ℕ, ◌==◌, List, [], ◌++◌, Bool, true, false, ◌&&◌, not, nat_le, nat_lt, sum, codes}
+use Rattle.riichi_tiles.specs.declared.meld.Meld.{Meld}
+use Rattle.riichi_tiles.specs.Melds.{tiles, are_concealed}
+use Rattle.riichi_blocks.specs.Kinds.{white, green, red}
+use Rattle.riichi_hand.specs.declared.win.Wind.TheVariants.{East, South, West, North}
+use Rattle.riichi_hand.specs.declared.win.WinParts.{WinParts}
+use Rattle.riichi_hand.specs.Win.{copies_with_indicators, wind_kind}
+
+-- Riichi was declared, and the line has no indicator, though each deal has one at least.
+abbrev pub lacks_indicator : WinParts → Bool
+lacks_indicator win = nat_lt 0 win.riichi && (sum win.dora == 0)
+
+-- Of the tile of a robbed kong, which has the other three, there is one more.
+abbrev pub is_robbed_twice : WinParts → Bool
+is_robbed_twice win = win.flags.chankan && nat_lt 1 (copies_with_indicators win win.winning)
+
+-- a meld is a triplet or a kong of an honour
+abbrev pub has_set : List Meld → ℕ → Bool
+has_set melds kind = nat_le 3 (tiles melds kind)
+
+-- the sets of all dragons are melds, and the hand is open
+abbrev pub are_dragons_called : List Meld → Bool
+are_dragons_called melds = not (are_concealed melds) && (has_set melds white && (has_set melds green && has_set melds red))
+
+-- the same of the winds
+abbrev pub are_winds_called : List Meld → Bool
+are_winds_called melds =
+    not (are_concealed melds)
+    && (has_set melds (wind_kind East) && (has_set melds (wind_kind South) && (has_set melds (wind_kind West) && has_set melds (wind_kind North))))
+
+abbrev pub note_if : Bool → List ℕ → List ℕ
+note_if true words = words
+note_if false words = []
+
+abbrev pub no_indicator : List ℕ
+no_indicator = codes "  note    riichi, and no indicator is said: dora= has what is turned over, and ura= what lies below it\n"
+
+abbrev pub robbed : List ℕ
+robbed = codes "  note    this cannot be: a kong that is robbed has the other three tiles of the winning kind\n"
+
+abbrev pub dragons_called : List ℕ
+dragons_called = codes "  note    all three dragons are called: who fed the last of them may be liable (in a game: liable and the name)\n"
+
+abbrev pub winds_called : List ℕ
+winds_called = codes "  note    all four winds are called: who fed the last of them may be liable (in a game: liable and the name)\n"
+
+abbrev pub note_lines : WinParts → List ℕ
+note_lines win =
+    note_if (lacks_indicator win) no_indicator
+    ++ note_if (is_robbed_twice win) robbed
+    ++ note_if (are_dragons_called win.melds) dragons_called
+    ++ note_if (are_winds_called win.melds) winds_called
