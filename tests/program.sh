@@ -121,7 +121,7 @@ explains examples/rules.lines examples/rules.answers
 explains examples/rules-two.lines examples/rules-two.answers
 explains "$room/rules.lines" "$room/rules.wanted"
 explains "$room/rules-two.lines" "$room/rules-two.wanted"
-disputed='win 99978m444p567s22s on=9m by=ron seat=S round=E riichi=1'
+disputed='win 99978m444p567s22s on=9m by=ron seat=S round=E riichi=1 dora=1z'
 why=$'won 1 han 50 fu 1600 gain 1600 riichi\n  reading 789m 999m 444p 567s 22s, 9m completes 789m\n  han     riichi 1
   fu      20 base, 10 concealed ron (menzen kafu), 8 concealed triplet 999m (ankou), 4 concealed triplet 444p (ankou): 42, rounded to 50
   base    50 x 2^3 = 400\n  pays    discarder 1600\n  gain    1600'

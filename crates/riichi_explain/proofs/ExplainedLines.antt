@@ -46,7 +46,7 @@ use Rattle.riichi_explain.specs.declared.explaining.Shown.TheVariants.{BestReadi
 use Rattle.riichi_explain.specs.declared.ranked.RankedReading.{RankedReading}
 use Rattle.riichi_explain.specs.Explanation.{rules_line, reason_lines, win_lines, AreOthers, IsBestText, IsWinText, IsJobText, IsOutcomeText}
 use Rattle.riichi_explain.specs.Han.{han_rows}
-use Rattle.riichi_explain.specs.Notes.{lacks_indicator, is_robbed_twice, are_dragons_called, are_winds_called, no_indicator, robbed, dragons_called, winds_called, note_if, note_lines}
+use Rattle.riichi_explain.specs.Notes.{lacks_indicator, is_robbed_twice, are_dragons_called, are_winds_called, no_indicator, robbed, dragons_called, winds_called, note_if, other_note, note_lines}
 use Rattle.riichi_explain.specs.Others.{scored_text, ranked_text, other_reading_text}
 use Rattle.riichi_explain.specs.Win.{counted_fu, explained_reading}
 use Rattle.riichi_explain.specs.Forms.{shanten_text, form_text, special_form_text as other_form, shanten_line}
@@ -438,14 +438,19 @@ note_if-lines : (is_told : Bool) (words : List ℕ) → are_indented words ≡ t
 note_if-lines true words p = p
 note_if-lines false words p = refl
 
+either-lines : (test : Bool) (one other : List ℕ) → are_indented one ≡ true → are_indented other ≡ true → are_indented (cond test one other) ≡ true
+either-lines true one other p q = p
+either-lines false one other p q = q
+
+other_note-lines : (win : WinParts) → are_indented (other_note win) ≡ true
+other_note-lines win =
+    either-lines (lacks_indicator win) no_indicator _ refl
+    (either-lines (are_dragons_called win.melds) dragons_called _ refl (either-lines (are_winds_called win.melds) winds_called [] refl refl))
+
 note_lines-lines : (win : WinParts) → are_indented (note_lines win) ≡ true
+unfolding note_lines
 note_lines-lines win =
-    let first = note_if (lacks_indicator win) no_indicator in
-    let second = note_if (is_robbed_twice win) robbed in
-    let third = note_if (are_dragons_called win.melds) dragons_called in
-    let fourth = note_if (are_winds_called win.melds) winds_called in
-    lines-append (first ++ second ++ third) fourth (lines-append (first ++ second) third (lines-append first second (note_if-lines (lacks_indicator win) no_indicator refl) (note_if-lines (is_robbed_twice win) robbed refl))
-    (note_if-lines (are_dragons_called win.melds) dragons_called refl)) (note_if-lines (are_winds_called win.melds) winds_called refl)
+    lines-append (note_if (is_robbed_twice win) robbed) (other_note win) (note_if-lines (is_robbed_twice win) robbed refl) (other_note-lines win)
 
 -- ---- every explanation
 

@@ -1,5 +1,5 @@
 -- What else is to be said of a win.
-use Rattle.std.specs.Prelude.{ℕ, ◌==◌, List, [], ◌++◌, Bool, true, false, ◌&&◌, not, nat_le, nat_lt, sum, codes}
+use Rattle.std.specs.Prelude.{ℕ, ◌==◌, List, [], ◌++◌, Bool, true, false, ◌&&◌, not, nat_le, nat_lt, sum, codes, if◌then◌else◌}
 use Rattle.riichi_tiles.specs.declared.meld.Meld.{Meld}
 use Rattle.riichi_tiles.specs.Melds.{tiles, are_concealed}
 use Rattle.riichi_blocks.specs.Kinds.{white, green, red}
@@ -34,20 +34,23 @@ note_if true words = words
 note_if false words = []
 
 abbrev pub no_indicator : List ℕ
-no_indicator = codes "  note    riichi, and no indicator is said: dora= has what is turned over, and ura= what lies below it\n"
+no_indicator = codes "  note    riichi, and no indicator is said: dora= is missing\n"
 
 abbrev pub robbed : List ℕ
-robbed = codes "  note    this cannot be: a kong that is robbed has the other three tiles of the winning kind\n"
+robbed = codes "  note    this cannot be: the robbed kong has the other three tiles\n"
 
 abbrev pub dragons_called : List ℕ
-dragons_called = codes "  note    all three dragons are called: who fed the last of them may be liable (in a game: liable and the name)\n"
+dragons_called = codes "  note    all three dragons are called: somebody may be liable (in a game: liable NAME)\n"
 
 abbrev pub winds_called : List ℕ
-winds_called = codes "  note    all four winds are called: who fed the last of them may be liable (in a game: liable and the name)\n"
+winds_called = codes "  note    all four winds are called: somebody may be liable (in a game: liable NAME)\n"
 
-abbrev pub note_lines : WinParts → List ℕ
-note_lines win =
-    note_if (lacks_indicator win) no_indicator
-    ++ note_if (is_robbed_twice win) robbed
-    ++ note_if (are_dragons_called win.melds) dragons_called
-    ++ note_if (are_winds_called win.melds) winds_called
+-- riichi is of a concealed hand, and no hand has seven melds, so at most one of these is so
+abbrev pub other_note : WinParts → List ℕ
+other_note win =
+    if lacks_indicator win then no_indicator
+    else if are_dragons_called win.melds then dragons_called
+    else if are_winds_called win.melds then winds_called else []
+
+unfoldable pub note_lines : WinParts → List ℕ
+note_lines win = note_if (is_robbed_twice win) robbed ++ other_note win

@@ -8,28 +8,45 @@ use riichi_blocks::{EAST, GREEN, RED, WHITE};
 use riichi_hand::WinRecord;
 use riichi_tiles::{Kind, Melds};
 
-const NO_INDICATOR: &str = "  note    riichi, and no indicator is said: dora= has what is turned over, and ura= what lies below it\n";
+const NO_INDICATOR: &str = "  note    riichi, and no indicator is said: dora= is missing\n";
 
-const ROBBED: &str = "  note    this cannot be: a kong that is robbed has the other three tiles of the winning kind\n";
+const ROBBED: &str = "  note    this cannot be: the robbed kong has the other three tiles\n";
 
-const DRAGONS: &str = "  note    all three dragons are called: who fed the last of them may be liable (in a game: liable and the name)\n";
+const DRAGONS: &str = "  note    all three dragons are called: somebody may be liable (in a game: liable NAME)\n";
 
-const WINDS: &str = "  note    all four winds are called: who fed the last of them may be liable (in a game: liable and the name)\n";
+const WINDS: &str = "  note    all four winds are called: somebody may be liable (in a game: liable NAME)\n";
 
-/// The bytes of all notes.
-pub(crate) const MOST_NOTES: usize = NO_INDICATOR.len() + ROBBED.len() + DRAGONS.len() + WINDS.len();
+/// The bytes of all notes that a win may have: riichi is of a concealed hand, and four melds have no more than one of the others.
+pub(crate) const MOST_NOTES: usize = ROBBED.len() + MOST_OTHER;
+
+const MOST_OTHER: usize = DRAGONS.len();
 
 /// Writes a line for each thing that is to be said of the win besides.
+#[tactic(auto, unfolding(crate::specs::Notes::note_lines))]
 pub(crate) fn push_notes(text: &mut ReasonsText, win: &WinRecord)
     requires { array_string_len text.old + MOST_NOTES ≤ REASONS_ROOM }
     ensures bytes { text.new.bytes ≡ text.old.bytes ++ spec.note_lines win.now }
     ensures len { array_string_len text.new ≤ array_string_len text.old + MOST_NOTES }
 {
-    let melds = win.melds();
-    push_note(text, lacks_indicator(win), NO_INDICATOR);
     push_note(text, is_robbed_twice(win), ROBBED);
-    push_note(text, are_dragons_called(&melds), DRAGONS);
-    push_note(text, are_winds_called(&melds), WINDS);
+    text.push_str(other_note(win));
+}
+
+/// What is missing beside riichi, or who may have to pay.
+fn other_note(win: &WinRecord) -> &'static str
+    ensures value { result.now ≡ spec.other_note win.now }
+    ensures short { length result.now ≤ MOST_OTHER }
+{
+    let melds = win.melds();
+    if lacks_indicator(win) {
+        NO_INDICATOR
+    } else if are_dragons_called(&melds) {
+        DRAGONS
+    } else if are_winds_called(&melds) {
+        WINDS
+    } else {
+        ""
+    }
 }
 
 fn push_note(text: &mut ReasonsText, is_told: bool, words: &str)

@@ -120,7 +120,8 @@ fn pairs(rt: HostRuntime) -> Result<(), Fail> {
         &[
             (
                 "win 234m567m345p67s11z on=8s by=ron seat=E round=E riichi=1",
-                "  reading 234m 567m 345p 678s 11z, 8s completes 678s
+                "  note    riichi, and no indicator is said: dora= is missing
+  reading 234m 567m 345p 678s 11z, 8s completes 678s
   han     riichi 1
   fu      20 base, 10 concealed ron (menzen kafu), 2 pair of the seat wind 11z, 2 pair of the prevalent wind 11z: 34, rounded to 40
   base    40 x 2^3 = 320
@@ -130,7 +131,8 @@ fn pairs(rt: HostRuntime) -> Result<(), Fail> {
             ),
             (
                 "win 234m567m345p67s77z on=8s by=ron seat=S round=E riichi=1",
-                "  reading 234m 567m 345p 678s 77z, 8s completes 678s
+                "  note    riichi, and no indicator is said: dora= is missing
+  reading 234m 567m 345p 678s 77z, 8s completes 678s
   han     riichi 1
   fu      20 base, 10 concealed ron (menzen kafu), 2 pair of dragons 77z: 32, rounded to 40
   base    40 x 2^3 = 320
@@ -160,7 +162,8 @@ fn waits_of_one_tile(rt: HostRuntime) -> Result<(), Fail> {
         &[
             (
                 "win 24567m345p678s99s on=3m by=ron seat=S round=E riichi=1",
-                "  reading 234m 567m 345p 678s 99s, 3m completes 234m
+                "  note    riichi, and no indicator is said: dora= is missing
+  reading 234m 567m 345p 678s 99s, 3m completes 234m
   han     riichi 1
   fu      20 base, 10 concealed ron (menzen kafu), 2 closed wait (kanchan): 32, rounded to 40
   base    40 x 2^3 = 320
@@ -170,7 +173,8 @@ fn waits_of_one_tile(rt: HostRuntime) -> Result<(), Fail> {
             ),
             (
                 "win 12567m345p678s99s on=3m by=ron seat=S round=E riichi=1",
-                "  reading 123m 567m 345p 678s 99s, 3m completes 123m
+                "  note    riichi, and no indicator is said: dora= is missing
+  reading 123m 567m 345p 678s 99s, 3m completes 123m
   han     riichi 1
   fu      20 base, 10 concealed ron (menzen kafu), 2 edge wait (penchan): 32, rounded to 40
   base    40 x 2^3 = 320
@@ -180,7 +184,8 @@ fn waits_of_one_tile(rt: HostRuntime) -> Result<(), Fail> {
             ),
             (
                 "win 3567m345p234789s on=3m by=ron seat=S round=E riichi=1",
-                "  reading 567m 345p 234s 789s 33m, 3m completes 33m
+                "  note    riichi, and no indicator is said: dora= is missing
+  reading 567m 345p 234s 789s 33m, 3m completes 33m
   han     riichi 1
   fu      20 base, 10 concealed ron (menzen kafu), 2 pair wait (tanki): 32, rounded to 40
   base    40 x 2^3 = 320
@@ -195,7 +200,8 @@ fn waits_of_one_tile(rt: HostRuntime) -> Result<(), Fail> {
 const TRIPLETS_AND_KONGS: [(&str, &str); 4] = [
     (
         "win 99978m444p567s22s on=9m by=ron seat=S round=E riichi=1",
-        "  reading 789m 999m 444p 567s 22s, 9m completes 789m
+        "  note    riichi, and no indicator is said: dora= is missing
+  reading 789m 999m 444p 567s 22s, 9m completes 789m
   han     riichi 1
   fu      20 base, 10 concealed ron (menzen kafu), 8 concealed triplet 999m (ankou), 4 concealed triplet 444p (ankou): 42, rounded to 50
   base    50 x 2^3 = 400
@@ -254,7 +260,8 @@ const LIMIT_HANDS: [(&str, &str); 7] = [
     ),
     (
         "win 111222333p78m99s on=9m by=ron seat=S round=E riichi=1",
-        "  reading 789m 123p 123p 123p 99s, 9m completes 789m
+        "  note    riichi, and no indicator is said: dora= is missing
+  reading 789m 123p 123p 123p 99s, 9m completes 789m
   han     riichi 1, pinfu 1, pure-double-chow (iipeiko) 1, terminals-in-all-sets (junchan) 3: 6
   fu      20 base, 10 concealed ron (menzen kafu): 30
   base    6 han, haneman 3000
@@ -274,7 +281,8 @@ const LIMIT_HANDS: [(&str, &str); 7] = [
     ),
     (
         "win 2233445678999m on=1m by=ron seat=E round=E riichi=2",
-        "  reading 123m 234m 456m 789m 99m, 1m completes 123m
+        "  note    riichi, and no indicator is said: dora= is missing
+  reading 123m 234m 456m 789m 99m, 1m completes 123m
   han     double-riichi 2, pinfu 1, pure-straight (ittsu) 2, full-flush (chinitsu) 6: 11
   fu      20 base, 10 concealed ron (menzen kafu): 30
   base    11 han, sanbaiman 6000
@@ -284,7 +292,8 @@ const LIMIT_HANDS: [(&str, &str); 7] = [
     ),
     (
         "win 2233445678999m on=1m by=ron seat=S round=E riichi=2 flags=ippatsu,last",
-        "  reading 123m 234m 456m 789m 99m, 1m completes 123m
+        "  note    riichi, and no indicator is said: dora= is missing
+  reading 123m 234m 456m 789m 99m, 1m completes 123m
   han     double-riichi 2, ippatsu 1, pinfu 1, last-tile (haitei or houtei) 1, pure-straight (ittsu) 2, full-flush (chinitsu) 6: 13
   fu      20 base, 10 concealed ron (menzen kafu): 30
   base    13 han, yakuman 8000
@@ -514,6 +523,38 @@ const OTHERS: [(&str, &str); 6] = [
     ),
     ("win 234m567m345p67s99s on=5s by=ron seat=S round=E", ""),
 ];
+
+#[test]
+fn notes_of_wins(rt: HostRuntime) -> Result<(), Fail> {
+    for (line, wanted) in [
+        (
+            "win 234m567m345p567s9s on=9s by=ron seat=S round=E flags=chankan",
+            "  note    this cannot be",
+        ),
+        (
+            "win 23m99p open=pon:555z,kan:6666z,pon:777z on=4m by=ron seat=N round=E",
+            "  note    all three dragons",
+        ),
+        (
+            "win 2m open=pon:111z,ankan:2222z,pon:333z,pon:444z on=2m by=ron seat=N round=E",
+            "  note    all four winds",
+        ),
+        (
+            "win 234m567m345p67s99s on=5s by=ron seat=S round=E flags=chankan",
+            "  reading",
+        ),
+        (
+            "win 23m99p555z open=pon:666z,pon:777z on=4m by=ron seat=N round=E",
+            "  reading",
+        ),
+    ] {
+        match read_line(Rules::One, line.as_bytes()) {
+            Ok(Some(job)) => holds(&rt, text_of(&job).as_str().starts_with(wanted)),
+            _ => return Err("a line that tells no job")?,
+        }
+    }
+    Ok(())
+}
 
 #[test]
 fn other_readings_the_best_first(rt: HostRuntime) -> Result<(), Fail> {

@@ -40,6 +40,14 @@ fn foreign_bytes(rt: HostRuntime) -> Result<(), Fail> {
                 "  p67s99s on=5s by=ron seat=S round=E \\xff\n                                      ^ a byte outside printable ASCII stands here\n",
             ),
             (
+                "waits 一二三萬é".as_bytes(),
+                "  waits 一二三萬é\n        ^ a byte outside printable ASCII stands here\n",
+            ),
+            (
+                "waits 1m\u{9b}2J".as_bytes(),
+                "  waits 1m\\xc2\\x9b2J\n          ^ a byte outside printable ASCII stands here\n",
+            ),
+            (
                 [b' '; 4097].as_slice(),
                 "  a line has at most 4096 bytes, all of them printable ASCII\n",
             ),

@@ -76,6 +76,55 @@ fn words(rt: HostRuntime) -> Result<(), Fail> {
     )
 }
 
+#[test]
+fn scripts_and_melds(rt: HostRuntime) -> Result<(), Fail> {
+    hints(
+        &rt,
+        WIN,
+        &[
+            "和了 二三四萬五六七萬三四五筒六七索九九索 ロン 五索 南家 東場",
+            "win 234m567m345p67s99s on=5s by=рон seat=Süd round=wschód",
+            "win 234m567m345p67s99s on 5s by discard east round south seat",
+        ],
+    )?;
+    hints(
+        &rt,
+        "win 234m567m67s99s on=5s by=ron seat=E round=E open=pon:777z",
+        &[
+            "win 234m567m67s99s p777z on=5s by=ron seat=E round=E",
+            "win 234m567m67s99s(777z) on=5s by=ron seat=E round=E",
+            "win 234m567m67s99s ポン777z on=5s by=ron seat=E round=E",
+        ],
+    )?;
+    hints(
+        &rt,
+        "win 234567m345p6799s on=0s by=ron seat=S round=E",
+        &["win 12,13,14,15,16,17,23,24,25,36,37,39,39 on=53 by=ron seat=S round=E"],
+    )
+}
+
+/// What may be meant otherwise as well is a guess.
+#[test]
+fn guesses(rt: HostRuntime) -> Result<(), Fail> {
+    for (line, account) in [
+        (
+            "win 234m567m345p67s99s on=5s ron S E",
+            " seat=S is a guess. round=E is a guess.",
+        ),
+        (
+            "win 234m567m67s99s [1111z] on=5s by=ron seat=E round=E",
+            " [1111z] is read as open=kan:1111z. open=kan:1111z is a guess.",
+        ),
+    ] {
+        let Some(hint) = hint_of(Rules::One, line.as_bytes()) else {
+            return Err("a line without a hint")?;
+        };
+        holds(&rt, hint.is_guess);
+        same(&rt, hint.account.as_slice(), account.as_bytes());
+    }
+    Ok(())
+}
+
 /// A win by ron before the own first draw is one where the rules have the blessing of man, of another seat than East.
 #[test]
 fn rules_of_the_line(rt: HostRuntime) -> Result<(), Fail> {
@@ -114,6 +163,7 @@ fn none(rt: HostRuntime) {
         "waits 12x3m",
         "waits 123456789m111z",
         "waits 11111m23456789m",
+        "win 234m567m67s99s 777z pon chi on=5s by=ron seat=E round=E",
         "win",
         "",
     ] {

@@ -53,6 +53,7 @@ const DORA_AND_LIMITS: [Row; 6] = [
         &[(Switch::CountedYakuman, false)],
         "win 2233445678999m on=1m by=ron seat=S round=E riichi=2 flags=ippatsu,last",
         "  rules   1-counted-yakuman
+  note    riichi, and no indicator is said: dora= is missing
   reading 123m 234m 456m 789m 99m, 1m completes 123m
   han     double-riichi 2, ippatsu 1, pinfu 1, last-tile (haitei or houtei) 1, pure-straight (ittsu) 2, full-flush (chinitsu) 6: 13
   fu      20 base, 10 concealed ron (menzen kafu): 30
@@ -106,6 +107,7 @@ const FU_AND_YAKU: [Row; 6] = [
         &[(Switch::DoubleWindPair, false)],
         "win 234m567m999p67s11z on=5s by=ron seat=E round=E riichi=1",
         "  rules   1-double-wind-pair
+  note    riichi, and no indicator is said: dora= is missing
   reading 234m 567m 999p 567s 11z, 5s completes 567s
   han     riichi 1
   fu      20 base, 10 concealed ron (menzen kafu), 8 concealed triplet 999p (ankou), 2 pair of the seat wind 11z: 40
@@ -149,6 +151,7 @@ const FU_AND_YAKU: [Row; 6] = [
         &[(Switch::Ippatsu, false)],
         "win 234m567m345p67s99s on=5s by=ron seat=S round=E riichi=1 flags=ippatsu",
         "  rules   1-ippatsu
+  note    riichi, and no indicator is said: dora= is missing
   reading 234m 567m 345p 567s 99s, 5s completes 567s
   han     riichi 1, pinfu 1: 2
   fu      20 base, 10 concealed ron (menzen kafu): 30
@@ -161,6 +164,7 @@ const FU_AND_YAKU: [Row; 6] = [
         &[(Switch::Ura, false)],
         "win 234m567m345p67s99s on=5s by=ron seat=S round=E riichi=1 ura=1m",
         "  rules   1-ura
+  note    riichi, and no indicator is said: dora= is missing
   reading 234m 567m 345p 567s 99s, 5s completes 567s
   han     riichi 1, pinfu 1: 2
   fu      20 base, 10 concealed ron (menzen kafu): 30

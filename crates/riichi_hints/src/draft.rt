@@ -42,8 +42,16 @@ pub(crate) struct Draft {
     pub(crate) red_suits: Part,
     /// Which word behind the last one isn't read.
     pub(crate) passes: Passed,
+    /// The first letter of a meld's name whose tiles follow, 0 where none is named.
+    pub(crate) meld_letter: u8,
+    /// The meld that is named next is concealed.
+    pub(crate) has_concealed: bool,
+    /// The line says what cannot be read: a meld without tiles.
+    pub(crate) is_odd: bool,
     /// What the next word means.
     pub(crate) ahead: Option<Meaning>,
+    /// The word behind the next one is tiles.
+    pub(crate) has_tiles_ahead: bool,
     /// What the words of the line were read as.
     pub(crate) roles: Roles,
 }
@@ -58,6 +66,10 @@ pub(crate) enum Passed {
     Value,
     /// A number: of red fives.
     Reds,
+    /// The name of a meld whose tiles stand before it.
+    MeldName,
+    /// A word that says no, of riichi.
+    Riichi,
 }
 
 impl Draft {
@@ -86,7 +98,11 @@ impl Draft {
             reds: 0,
             red_suits: Part::new(),
             passes: Passed::Nothing,
+            meld_letter: 0,
+            has_concealed: false,
+            is_odd: false,
             ahead: None,
+            has_tiles_ahead: false,
             roles: Roles::new(),
         }
     }
@@ -103,7 +119,7 @@ impl Draft {
             Key::By => put_once(&mut self.by, by_of(value)),
             Key::Seat => put_once(&mut self.seat, wind_of(value)),
             Key::Round => put_once(&mut self.round, wind_of(value)),
-            Key::Open => return self.put_meld(b"", value),
+            Key::Open => return self.put_named_meld(value),
             Key::Riichi => {
                 self.riichi = riichi_of(value);
                 true
@@ -175,8 +191,27 @@ impl Draft {
         }
     }
 
+    /// Takes the tiles of the meld that is named before them, or of one without a name.
+    fn put_named_meld(&mut self, value: &[u8]) -> Role {
+        let letter = [self.meld_letter];
+        if self.meld_letter == 0 {
+            self.put_meld(b"", value)
+        } else {
+            self.put_meld(&letter, value)
+        }
+    }
+
+    /// A meld is named, whose tiles follow.
+    pub(crate) fn name_meld(&mut self, letter: u8) -> Role {
+        self.is_odd |= self.meld_letter != 0;
+        self.meld_letter = if self.has_concealed { b'a' } else { letter };
+        self.has_concealed = false;
+        self.name(Key::Open)
+    }
+
     /// Takes a meld. Which meld its tiles make; four of a kind are concealed where the name says so, and may be where it says nothing.
     pub(crate) fn put_meld(&mut self, name: &[u8], value: &[u8]) -> Role {
+        self.meld_letter = 0;
         let tiles = meld_tiles(name, value);
         let word = meld_word(name, tiles.as_slice());
         if !self.melds.is_empty() {

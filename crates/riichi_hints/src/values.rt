@@ -82,6 +82,14 @@ pub(crate) fn is_dealer(word: &[u8]) -> bool {
     }
 }
 
+/// Whether a word says that a meld is concealed.
+pub(crate) fn is_concealed(word: &[u8]) -> bool {
+    match name_of(word) {
+        Some(name) => matches!(name.as_slice(), b"closed" | b"concealed" | b"hidden"),
+        None => false,
+    }
+}
+
 /// Whether a word takes back the one behind it.
 pub(crate) fn is_negation(word: &[u8]) -> bool {
     match name_of(word) {
@@ -131,6 +139,11 @@ pub(crate) fn riichi_of(value: &[u8]) -> u8 {
 /// A value that says no: `0`, `no`, `none`, `false`, `-`.
 pub(crate) fn is_no(value: &[u8]) -> bool {
     matches!(value, [b'0' | b'n' | b'N' | b'f' | b'F' | b'-', ..])
+}
+
+/// A value that says that there is nothing.
+pub(crate) fn is_none(value: &[u8]) -> bool {
+    matches!(value, b"no" | b"none" | b"No" | b"None" | b"0" | b"-" | b"false")
 }
 
 /// A number: of one that goes on with letters the first digit.

@@ -11,7 +11,7 @@ use crate::role::Role;
 use crate::spelled::{are_of_meld, bracketed, lettered_meld, split_at_bracket, tile_by_number};
 use crate::text::{Part, last};
 use crate::tiles::{are_tiles, is_number, is_one_tile};
-use crate::values::{by_of, is_negation, is_no, wind_named};
+use crate::values::{by_of, is_concealed, is_negation, is_no, is_none, wind_named};
 use riichi_hand::{JobName, Key, next_word};
 use riichi_tiles::is_digit;
 
@@ -22,14 +22,29 @@ impl Draft {
         let mut rest = line;
         while let Some((word, after)) = next_word(rest) {
             if begins_note(word) || draft.roles.is_full() {
-                return draft;
+                break;
             }
-            draft.ahead = first_meaning(after);
+            draft.look_ahead(after);
             let role = draft.read_word(word);
             let _ = draft.roles.try_push(role);
             rest = after;
         }
+        if draft.is_odd || draft.meld_letter != 0 {
+            draft.hand.clear();
+        }
         draft
+    }
+
+    /// What stands behind a word.
+    fn look_ahead(&mut self, line: &[u8]) {
+        self.ahead = None;
+        self.has_tiles_ahead = false;
+        if let Some((word, after)) = next_word(line) {
+            self.ahead = meaning_of(translated(word).as_slice());
+            if let Some((tiles, _)) = next_word(after) {
+                self.has_tiles_ahead = are_tiles(translated(tiles).as_slice());
+            }
+        }
     }
 
     fn read_word(&mut self, word: &[u8]) -> Role {
@@ -41,6 +56,10 @@ impl Draft {
             Passed::Word => Role::Unread,
             Passed::Value if is_number(word) || wind_named(word).is_some() => Role::Unread,
             Passed::Reds if is_number(word) => self.put_red(word),
+            Passed::MeldName => Role::Entry(Key::Open),
+            Passed::Riichi if self.ahead.is_none() && (is_none(word) || is_negation(word)) => {
+                self.put(Key::Riichi, b"0")
+            }
             _ => self.read_said(word),
         }
     }
@@ -133,15 +152,19 @@ impl Draft {
         }
     }
 
-    /// The value of `open` or `flags` is a word of its own. A value may repeat its key.
+    /// The value of `open` or `flags` is a word of its own. A value may repeat its key, or say that there is nothing.
     fn read_value(&mut self, key: Key, value: &[u8]) -> Role {
         self.key = Some(key);
+        if is_none(value) && !matches!(key, Key::On | Key::By | Key::Seat | Key::Round) {
+            return Role::Unread;
+        }
         match cut_name(value) {
             Some((name, more)) => match meaning_of(name) {
                 Some(Meaning::Key(again)) if again == key => self.put(key, more),
                 _ => self.put_meld(name, more),
             },
             None => match (key, meaning_of(value)) {
+                (Key::Flags, Some(Meaning::Key(key))) => self.read_key(key),
                 (Key::Flags | Key::Open, Some(meaning)) => self.take(meaning),
                 _ => self.put_value(key, value),
             },
@@ -166,10 +189,25 @@ impl Draft {
             self.passes = Passed::Word;
             return Role::Unread;
         }
-        match meaning_of(word) {
+        if is_concealed(word) && self.ahead == Some(Meaning::Meld) {
+            self.has_concealed = true;
+            return Role::Entry(Key::Open);
+        }
+        match self.meaning_here(word) {
             Some(Meaning::Key(key)) => self.read_key(key),
+            Some(Meaning::Meld) => self.name_meld(first(word)),
             Some(meaning) => self.take(meaning),
             None => self.read_loose(word),
+        }
+    }
+
+    /// What a word means without a value: `red` may be of a dragon, and the tile of `dora tile` is an indicator.
+    fn meaning_here(&self, word: &[u8]) -> Option<Meaning> {
+        match (word, self.key) {
+            (b"red" | b"reds", _) => Some(Meaning::Unsaid),
+            (b"tile", Some(Key::Dora)) if self.dora.is_empty() => Some(Meaning::Key(Key::Dora)),
+            (b"tile", Some(Key::Ura)) if self.ura.is_empty() => Some(Meaning::Key(Key::Ura)),
+            _ => meaning_of(word),
         }
     }
 
@@ -179,6 +217,7 @@ impl Draft {
             Key::Riichi if self.ahead == Some(Meaning::Key(Key::Sticks)) => Role::Entry(Key::Sticks),
             Key::Riichi => {
                 self.riichi = self.riichi.max(1);
+                self.passes = Passed::Riichi;
                 self.name(Key::Riichi)
             }
             Key::Dora if self.key == Some(Key::Ura) && self.ura.is_empty() => self.name(Key::Ura),
@@ -218,6 +257,9 @@ impl Draft {
     fn read_free(&mut self, word: &[u8]) -> Role {
         if let Some((name, tiles)) = lettered_meld(word) {
             self.put_meld(name, tiles)
+        } else if self.is_before_name(word) {
+            self.passes = Passed::MeldName;
+            self.put_meld(b"", word)
         } else if self.is_winning(word) {
             self.put(Key::On, word)
         } else if let Some(key) = self.key_ahead(word) {
@@ -233,6 +275,11 @@ impl Draft {
         } else {
             self.read_glued(word)
         }
+    }
+
+    /// Whether a word is the tiles of a meld whose name is the next word, which has none behind it.
+    fn is_before_name(&self, word: &[u8]) -> bool {
+        self.ahead == Some(Meaning::Meld) && !self.has_tiles_ahead && are_of_meld(word)
     }
 
     /// Whether a word is one tile behind the whole hand of a win.
@@ -316,10 +363,12 @@ impl Draft {
     }
 }
 
-/// What the first word of a line means by itself.
-fn first_meaning(line: &[u8]) -> Option<Meaning> {
-    let (word, _) = next_word(line)?;
-    meaning_of(translated(word).as_slice())
+/// The first letter of a word, 0 where there is none.
+fn first(word: &[u8]) -> u8 {
+    match word {
+        [first, ..] => *first,
+        [] => 0,
+    }
 }
 
 /// A word without the full stop behind it.
