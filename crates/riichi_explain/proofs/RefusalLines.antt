@@ -88,10 +88,14 @@ unwrapped-plain : (text : Option (List ℕ)) (other : List ℕ) → IsPlainIfAny
 unwrapped-plain None other p q = q
 unwrapped-plain (Some text) other p q = p
 
+seen_at-plain : (more place : ℕ) (text : List ℕ) → IsPlainIfAny (seen (around more place text))
+seen_at-plain more place text = seen_if-plain (around more place text) (is_seen (around more place text)) refl
+
 seen_around-plain : (place : ℕ) (text : List ℕ) → IsPlainIfAny (seen_around place text)
 seen_around-plain place text =
-    let at = λ (more : ℕ). seen_if-plain (around more place text) (is_seen (around more place text)) refl in
-    either_seen (seen (around 36 place text)) _ (at 36) (either_seen (seen (around 35 place text)) _ (at 35) (either_seen (seen (around 34 place text)) (seen (around 33 place text)) (at 34) (at 33)))
+    either_seen (seen (around 36 place text)) _ (seen_at-plain 36 place text)
+    (either_seen (seen (around 35 place text)) _ (seen_at-plain 35 place text)
+    (either_seen (seen (around 34 place text)) (seen (around 33 place text)) (seen_at-plain 34 place text) (seen_at-plain 33 place text)))
 
 foreign_line-lines : (place : ℕ) (text : List ℕ) → are_indented (foreign_line place text) ≡ true
 unfolding foreign_line

@@ -13,7 +13,11 @@ use crate::win_text::push_won_hand;
 use riichi_hand::{MOST_RULES_WORDS, WinRecord, push_house_words};
 
 /// The bytes of the longest lines that [`push_win_lines`] writes.
-pub const MOST_WIN_LINES: usize = "  rules   ".len() + MOST_RULES_WORDS + "\n".len() + MOST_NOTES + MOST_REASONS;
+pub const MOST_WIN_LINES: usize = "  rules   ".len()
+    + MOST_RULES_WORDS
+    + "\n".len()
+    + MOST_NOTES
+    + MOST_REASONS;
 
 /// A hand that is no win and waits for many kinds has the longest reasons.
 const MOST_REASONS: usize = MOST_MISSED;

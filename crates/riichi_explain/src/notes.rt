@@ -12,9 +12,11 @@ const NO_INDICATOR: &str = "  note    riichi, and no indicator is said: dora= is
 
 const ROBBED: &str = "  note    this cannot be: the robbed kong has the other three tiles\n";
 
-const DRAGONS: &str = "  note    all three dragons are called: somebody may be liable (in a game: liable NAME)\n";
+const DRAGONS: &str =
+    "  note    all three dragons are called: somebody may be liable (in a game: liable NAME)\n";
 
-const WINDS: &str = "  note    all four winds are called: somebody may be liable (in a game: liable NAME)\n";
+const WINDS: &str =
+    "  note    all four winds are called: somebody may be liable (in a game: liable NAME)\n";
 
 /// The bytes of all notes that a win may have: riichi is of a concealed hand, and four melds have no more than one of the others.
 pub(crate) const MOST_NOTES: usize = ROBBED.len() + MOST_OTHER;
@@ -71,17 +73,16 @@ fn is_robbed_twice(win: &WinRecord) -> bool
     ensures { result ≡ spec.is_robbed_twice win.now }
 {
     let kind = win.winning();
-    let copies = win.copies_won(kind) + win.dora().get(kind) + win.ura().get(kind);
+    let copies = u32::from(win.copies_won(kind))
+        + u32::from(win.dora().get(kind))
+        + u32::from(win.ura().get(kind));
     win.flags().chankan && copies > 1
 }
 
 fn are_dragons_called(melds: &Melds) -> bool
     ensures { result ≡ spec.are_dragons_called melds.now }
 {
-    !melds.concealed()
-        && has_set(melds, WHITE)
-        && has_set(melds, GREEN)
-        && has_set(melds, RED)
+    !melds.concealed() && has_set(melds, WHITE) && has_set(melds, GREEN) && has_set(melds, RED)
 }
 
 fn are_winds_called(melds: &Melds) -> bool

@@ -112,10 +112,10 @@ other_less edits first second after rest differ h = other_left edits first secon
 
 -- ---- what the code asks of words by their places
 
-abbrev rest : List ℕ → List ℕ
+abbrev pub rest : List ℕ → List ℕ
 rest word = take (length word - 1) (drop 1 word)
 
-rest_is : (first : ℕ) (after : List ℕ) → rest (first ∷ after) ≡ after
+pub rest_is : (first : ℕ) (after : List ℕ) → rest (first ∷ after) ≡ after
 rest_is first after = take_rest (first ∷ after) 1
 
 pub word_ends : (edits : ℕ) (word other : List ℕ) → length word < 1 → Decides (leb (length other) edits) (IsWithin edits word other)

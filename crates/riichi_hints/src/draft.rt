@@ -1,9 +1,9 @@
 //! A draft of a line: what its words seem to say.
 use crate::names::{Flag, Meaning};
 use crate::role::{Role, Roles};
+use crate::spelled::tile_by_number;
 use crate::text::{Part, add, add_all};
 use crate::tiles::add_tiles;
-use crate::spelled::tile_by_number;
 use crate::values::{by_of, is_dealer, is_hand_of_round, number_of, riichi_of, wind_of};
 use riichi_hand::{By, Flags, JobName, Key};
 use riichi_tiles::is_digit;
@@ -140,7 +140,11 @@ impl Draft {
 
     /// The tile of two digits, where the hand has such.
     fn by_number(&self, value: &[u8]) -> Option<Part> {
-        if self.has_numbers { tile_by_number(value) } else { None }
+        if self.has_numbers {
+            tile_by_number(value)
+        } else {
+            None
+        }
     }
 
     /// Takes tiles of the hand.
@@ -268,7 +272,11 @@ impl Draft {
         if self.job.is_none() {
             self.job = Some(job);
         }
-        if self.job == Some(job) { Role::Job } else { Role::Unread }
+        if self.job == Some(job) {
+            Role::Job
+        } else {
+            Role::Unread
+        }
     }
 
     /// A key is named, whose value follows.

@@ -130,7 +130,11 @@ pub(crate) fn tile_by_number(word: &[u8]) -> Option<Part> {
 /// A word in brackets.
 pub(crate) fn bracketed(word: &[u8]) -> Option<&[u8]> {
     match word {
-        [b'(' | b'[' | b'{' | b'<', inside @ .., b')' | b']' | b'}' | b'>'] => Some(inside),
+        [
+            b'(' | b'[' | b'{' | b'<',
+            inside @ ..,
+            b')' | b']' | b'}' | b'>',
+        ] => Some(inside),
         _ => None,
     }
 }
@@ -149,9 +153,10 @@ pub(crate) fn split_at_bracket(word: &[u8]) -> Option<(&[u8], &[u8])> {
 /// A meld by the first letter of its name, as `c123m`, `p777z`, `k1111z` and `a1111z`.
 pub(crate) fn lettered_meld(word: &[u8]) -> Option<(&[u8], &[u8])> {
     match word {
-        [b'c' | b'p' | b'k' | b'a' | b'C' | b'P' | b'K' | b'A', tiles @ ..] if are_of_meld(tiles) => {
-            Some((&word[..1], tiles))
-        }
+        [
+            b'c' | b'p' | b'k' | b'a' | b'C' | b'P' | b'K' | b'A',
+            tiles @ ..,
+        ] if are_of_meld(tiles) => { Some((&word[..1], tiles)) }
         _ => None,
     }
 }

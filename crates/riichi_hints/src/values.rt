@@ -143,7 +143,10 @@ pub(crate) fn is_no(value: &[u8]) -> bool {
 
 /// A value that says that there is nothing.
 pub(crate) fn is_none(value: &[u8]) -> bool {
-    matches!(value, b"no" | b"none" | b"No" | b"None" | b"0" | b"-" | b"false")
+    matches!(
+        value,
+        b"no" | b"none" | b"No" | b"None" | b"0" | b"-" | b"false"
+    )
 }
 
 /// A number: of one that goes on with letters the first digit.

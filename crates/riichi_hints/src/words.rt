@@ -214,7 +214,9 @@ impl Draft {
     /// The name of a key: `riichi` says yes by itself, unless it is the riichi of sticks, and the dora of `ura dora` is below.
     fn read_key(&mut self, key: Key) -> Role {
         match key {
-            Key::Riichi if self.ahead == Some(Meaning::Key(Key::Sticks)) => Role::Entry(Key::Sticks),
+            Key::Riichi if self.ahead == Some(Meaning::Key(Key::Sticks)) => Role::Entry(
+                Key::Sticks,
+            ),
             Key::Riichi => {
                 self.riichi = self.riichi.max(1);
                 self.passes = Passed::Riichi;
@@ -298,7 +300,8 @@ impl Draft {
     /// The key whose name is the next word, where this word is its value: `south seat`, `2 honba`.
     fn key_ahead(&self, word: &[u8]) -> Option<Key> {
         match self.ahead {
-            Some(Meaning::Key(key @ (Key::Seat | Key::Round))) if wind_named(word).is_some() => Some(key),
+            Some(Meaning::Key(key @ (Key::Seat | Key::Round))) if wind_named(word).is_some() =>
+                Some(key),
             Some(Meaning::Key(key @ (Key::Counters | Key::Sticks))) if is_number(word) => Some(key),
             _ => None,
         }
@@ -321,7 +324,9 @@ impl Draft {
     fn goes_on(&self, word: &[u8]) -> bool {
         let is_behind_digit = is_digit(last(self.hand.as_slice()));
         match word {
-            [b'0'..=b'9'] => self.hand_count() < self.wanted() + 1,
+            [b'0'..=b'9'] => {
+                self.hand_count() < self.wanted() || self.job == Some(JobName::Shape)
+            }
             [b'm' | b'p' | b's' | b'z'] => is_behind_digit,
             _ => false,
         }

@@ -83,8 +83,14 @@ fn seen_around(line: &[u8], place: usize) -> Option<&str>
     ensures short { IfSome result (λ text. length text.now ≤ SHOWN) }
 {
     let (whole, less) = (around(line, place, BEFORE), around(line, place, BEFORE - 1));
-    let (shorter, shortest) = (around(line, place, BEFORE - 2), around(line, place, BEFORE - 3));
-    seen(whole).or(seen(less)).or(seen(shorter)).or(seen(shortest))
+    let (shorter, shortest) = (
+        around(line, place, BEFORE - 2),
+        around(line, place, BEFORE - 3),
+    );
+    seen(whole)
+        .or(seen(less))
+        .or(seen(shorter))
+        .or(seen(shortest))
 }
 
 /// A text whose characters are seen as they are, in whatever script; none where a byte is of no character, or where one controls
