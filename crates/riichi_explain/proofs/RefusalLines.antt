@@ -18,7 +18,7 @@ use Rattle.riichi_hand.specs.Rules.{Rules}
 use Rattle.riichi_refusals.specs.LineWords.{word_at_fault, text_word}
 use Rattle.riichi_refusals.specs.Meaning.{is_long, foreign_at, refusal_words}
 use Rattle.riichi_refusals.specs.Refusal.{named_word, word_line, foreign_lines, missing_text, missing_line, code_lines, place_in, notation_lines, fault_lines, refusal_lines}
-use Rattle.riichi_refusals.specs.Shown.{hex_digit, byte_text, shown, hides, has_hidden, is_seen, seen, around, shown_line, seen_around, foreign_text, foreign_line, mark_line, marked_lines, foreign_marked}
+use Rattle.riichi_refusals.specs.Shown.{hex_digit, byte_text, shown, hides, has_hidden, is_seen, seen_as_is, around, shown_line, seen_around, foreign_text, foreign_line, mark_line, marked_lines, foreign_marked}
 use Rattle.riichi_refusals.proofs.QuietWords.{is_quiet, quiet, refusal_words-quiet, key_name-quiet}
 use Rattle.riichi_explain.proofs.PlainTexts.{plain, after, after3, byte-plain, flat_map-plain, replicate-plain, are_indented, pass, lines-append}
 use Rattle.riichi_hints.specs.Hint.{IsNote, IsPrintable, told_line, said_if, mark_of, IsHintOrNone, IsRefusalText}
@@ -88,14 +88,14 @@ unwrapped-plain : (text : Option (List ℕ)) (other : List ℕ) → IsPlainIfAny
 unwrapped-plain None other p q = q
 unwrapped-plain (Some text) other p q = p
 
-seen_at-plain : (more place : ℕ) (text : List ℕ) → IsPlainIfAny (seen (around more place text))
+seen_at-plain : (more place : ℕ) (text : List ℕ) → IsPlainIfAny (seen_as_is (around more place text))
 seen_at-plain more place text = seen_if-plain (around more place text) (is_seen (around more place text)) refl
 
 seen_around-plain : (place : ℕ) (text : List ℕ) → IsPlainIfAny (seen_around place text)
 seen_around-plain place text =
-    either_seen (seen (around 36 place text)) _ (seen_at-plain 36 place text)
-    (either_seen (seen (around 35 place text)) _ (seen_at-plain 35 place text)
-    (either_seen (seen (around 34 place text)) (seen (around 33 place text)) (seen_at-plain 34 place text) (seen_at-plain 33 place text)))
+    either_seen (seen_as_is (around 36 place text)) _ (seen_at-plain 36 place text)
+    (either_seen (seen_as_is (around 35 place text)) _ (seen_at-plain 35 place text)
+    (either_seen (seen_as_is (around 34 place text)) (seen_as_is (around 33 place text)) (seen_at-plain 34 place text) (seen_at-plain 33 place text)))
 
 foreign_line-lines : (place : ℕ) (text : List ℕ) → are_indented (foreign_line place text) ≡ true
 unfolding foreign_line

@@ -4,7 +4,7 @@ use Rattle.std.specs.Prelude.{not}
 use Rattle.std.proofs.lemmas.Bool.{and_parts}
 use Rattle.std.proofs.Math.Seq.{get_or-append_seam}
 use Rattle.riichi_hints.proofs.NearLemmas.{rest, rest_is}
-use Rattle.riichi_hints.specs.Plain.{begins_mark, stays, is_plain_behind}
+use Rattle.riichi_hints.specs.Plain.{begins_mark, stays_plain, is_plain_behind}
 
 abbrev last_of : List ℕ → ℕ
 last_of text = get_or text (length text - 1) 0
@@ -17,12 +17,12 @@ last_is text byte =
 
 -- one byte more
 plain_more : (old one new : List ℕ) (byte : ℕ) (rest : List ℕ) → is_plain_behind (last_of old) (byte ∷ rest) ≡ true → length old + length (byte ∷ rest) ≤ 512
-    → (stays (last_of old) byte ≡ true → length old < 512 → one ≡ old ++ byte ∷ [])
+    → (stays_plain (last_of old) byte ≡ true → length old < 512 → one ≡ old ++ byte ∷ [])
     → (is_plain_behind (last_of one) rest ≡ true → length one + length rest ≤ 512 → new ≡ one ++ rest)
     → new ≡ old ++ byte ∷ rest
 plain_more old one new byte rest is few adds goes_on =
     let parts = and_parts (not (begins_mark (byte ∷ rest))) _ is in
-    let both = and_parts (stays (last_of old) byte) (is_plain_behind byte rest) parts.1 in
+    let both = and_parts (stays_plain (last_of old) byte) (is_plain_behind byte rest) parts.1 in
     let added : one ≡ old ++ byte ∷ [] = adds both.0 (omega (arith, few)) in
     let last : last_of one ≡ byte = ap last_of added ∙ last_is old byte in
     let long = ap length added in
@@ -32,7 +32,7 @@ plain_more old one new byte rest is few adds goes_on =
 
 -- the same of a text by its places
 pub plain_more_at : (old one new line : List ℕ) → 0 < length line → is_plain_behind (last_of old) line ≡ true → length old + length line ≤ 512
-    → (stays (last_of old) (get_or line 0 0) ≡ true → length old < 512 → one ≡ old ++ get_or line 0 0 ∷ [])
+    → (stays_plain (last_of old) (get_or line 0 0) ≡ true → length old < 512 → one ≡ old ++ get_or line 0 0 ∷ [])
     → (is_plain_behind (last_of one) (rest line) ≡ true → length one + length (rest line) ≤ 512 → new ≡ one ++ rest line)
     → new ≡ old ++ line
 plain_more_at old one new [] some is few adds goes_on = absurd (omega arith)

@@ -18,29 +18,29 @@ use Rattle.riichi_hints.specs.declared.role.Spot.TheVariants.{First, Second, Lat
 
 -- ---- words
 
-abbrev pub begins_note : List ℕ → Bool
-begins_note [] = false
-begins_note (first ∷ word) = first == 35
+abbrev pub opens_note : List ℕ → Bool
+opens_note [] = false
+opens_note (first ∷ word) = first == 35
 
 -- the words of a line up to a note
 abbrev pub read_words : List (List ℕ) → List (List ℕ)
 read_words [] = []
-read_words (word ∷ words) = if begins_note word then [] else word ∷ read_words words
+read_words (word ∷ words) = if opens_note word then [] else word ∷ read_words words
 
 -- a letter that is no capital, and `=` for a colon
-abbrev pub small : ℕ → ℕ
-small letter = if nat_le 65 letter && nat_le letter 90 then letter + 32 else if letter == 58 then 61 else letter
+abbrev pub small_byte : ℕ → ℕ
+small_byte letter = if nat_le 65 letter && nat_le letter 90 then letter + 32 else if letter == 58 then 61 else letter
 
 -- a word begins with these letters, in upper case or not
-abbrev pub begins : List ℕ → List ℕ → Bool
-begins word [] = true
-begins [] (letter ∷ letters) = false
-begins (one ∷ word) (letter ∷ letters) = (small one == small letter) && begins word letters
+abbrev pub begins_as : List ℕ → List ℕ → Bool
+begins_as word [] = true
+begins_as [] (letter ∷ letters) = false
+begins_as (one ∷ word) (letter ∷ letters) = (small_byte one == small_byte letter) && begins_as word letters
 
 -- a word stands in another
 abbrev pub stands_in : List ℕ → List ℕ → Bool
-stands_in word [] = begins [] word
-stands_in word (letter ∷ other) = begins (letter ∷ other) word || stands_in word other
+stands_in word [] = begins_as [] word
+stands_in word (letter ∷ other) = begins_as (letter ∷ other) word || stands_in word other
 
 -- ---- the words that are shown
 
@@ -49,8 +49,8 @@ has_name name None = false
 has_name name (Some cut) = bytes_eq name cut.0
 
 -- a word has a key before its `=`
-abbrev pub has_key : Key → List ℕ → Bool
-has_key key word = has_name (key_name key) (cut_at 61 word)
+abbrev pub has_key_before : Key → List ℕ → Bool
+has_key_before key word = has_name (key_name key) (cut_at 61 word)
 
 -- the first word that is shown is the job, the second the hand, and the others have keys
 abbrev pub next_spot : Spot → Spot
@@ -62,10 +62,10 @@ abbrev pub fits : Role → Spot → List ℕ → Bool
 fits Job First word = true
 fits Hand Second word = true
 fits Numbered Second word = true
-fits (Entry key) Later word = has_key key word
-fits (Likely key) Later word = has_key key word
-fits Won Later word = has_key On word || has_key By word
-fits Winds Later word = has_key Seat word || has_key Round word
+fits (Entry key) Later word = has_key_before key word
+fits (Likely key) Later word = has_key_before key word
+fits Won Later word = has_key_before On word || has_key_before By word
+fits Winds Later word = has_key_before Seat word || has_key_before Round word
 fits role spot word = false
 
 -- some word is of a role, from this place on
@@ -88,9 +88,9 @@ spaced_if false word = []
 spaced_if true word = codes " " ++ word
 
 -- the words of a role, each behind a space
-abbrev pub shown_text : Role → Spot → List (List ℕ) → List ℕ
-shown_text role spot [] = []
-shown_text role spot (word ∷ words) = spaced_if (fits role spot word) word ++ shown_text role (next_spot spot) words
+abbrev pub role_text : Role → Spot → List (List ℕ) → List ℕ
+role_text role spot [] = []
+role_text role spot (word ∷ words) = spaced_if (fits role spot word) word ++ role_text role (next_spot spot) words
 
 -- ---- what became of a word
 
@@ -117,7 +117,7 @@ named_text fate word = codes " " ++ word
 abbrev pub fate_text : Fate → List (List ℕ) → List ℕ
 fate_text Kept shown = []
 fate_text LeftOut shown = codes " is left out."
-fate_text (Read role) shown = codes " is read as" ++ (shown_text role First shown ++ codes ".")
+fate_text (Read role) shown = codes " is read as" ++ (role_text role First shown ++ codes ".")
 
 -- where another became of the next word
 abbrev pub ended_text : Fate → Fate → List (List ℕ) → List ℕ
@@ -129,11 +129,11 @@ first_role [] = Unread
 first_role (role ∷ roles) = role
 
 -- of each word, behind one of which this became
-abbrev pub told : Fate → List (List ℕ) → List Role → List (List ℕ) → List ℕ
-told before [] roles shown = fate_text before shown
-told before (word ∷ words) roles shown =
+abbrev pub fates_told : Fate → List (List ℕ) → List Role → List (List ℕ) → List ℕ
+fates_told before [] roles shown = fate_text before shown
+fates_told before (word ∷ words) roles shown =
     let fate = fate_of word (first_role roles) shown in
-    (ended_text before fate shown ++ named_text fate word) ++ told fate words (drop 1 roles) shown
+    (ended_text before fate shown ++ named_text fate word) ++ fates_told fate words (drop 1 roles) shown
 
 -- ---- guesses
 
@@ -147,13 +147,13 @@ is_likely (Likely key) = true
 is_likely Winds = true
 is_likely role = false
 
-abbrev pub doubts : Role → Spot → List ℕ → Bool
-doubts role spot word = is_likely role && fits role spot word
+abbrev pub role_doubts : Role → Spot → List ℕ → Bool
+role_doubts role spot word = is_likely role && fits role spot word
 
 -- behind the job and the hand, a word that no word is read as, or one of which another may be meant as well
 abbrev pub is_guess : List Role → Spot → List ℕ → Bool
 is_guess roles spot word =
-    is_later spot && (not (list_any (λ role. fits role spot word) roles) || list_any (λ role. doubts role spot word) roles)
+    is_later spot && (not (list_any (λ role. fits role spot word) roles) || list_any (λ role. role_doubts role spot word) roles)
 
 abbrev pub has_guess : List Role → Spot → List (List ℕ) → Bool
 has_guess roles spot [] = false
@@ -170,7 +170,7 @@ guesses_text roles spot (word ∷ words) = guess_text (is_guess roles spot word)
 -- ---- the account
 
 abbrev pub account_text : List (List ℕ) → List Role → List (List ℕ) → List ℕ
-account_text words roles shown = told Kept words roles shown ++ guesses_text roles First shown
+account_text words roles shown = fates_told Kept words roles shown ++ guesses_text roles First shown
 
 -- More is told, unless something had no room.
 abbrev pub IsAdded : Account → Account → List ℕ → Type 0

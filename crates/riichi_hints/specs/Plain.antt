@@ -13,8 +13,8 @@ abbrev pub is_of_word : ℕ → Bool
 is_of_word byte = nat_lt 32 byte && not ((byte == 127) || parts_words byte)
 
 -- behind one byte another stays as it is: one space parts words, and beside `=` and `:` there is none
-abbrev pub stays : ℕ → ℕ → Bool
-stays before byte = if byte == 32 then not (before == 32 || is_mark before) else is_of_word byte && not (is_mark byte && before == 32)
+abbrev pub stays_plain : ℕ → ℕ → Bool
+stays_plain before byte = if byte == 32 then not (before == 32 || is_mark before) else is_of_word byte && not (is_mark byte && before == 32)
 
 abbrev pub begins_with : ℕ → List ℕ → Bool
 begins_with byte [] = false
@@ -29,7 +29,7 @@ begins_mark (first ∷ rest) = (first == 194) || ((first == 226) || ((first == 2
 -- each byte stays, the first behind this one, and no character is a mark outside ASCII
 abbrev pub is_plain_behind : ℕ → List ℕ → Bool
 is_plain_behind before [] = true
-is_plain_behind before (byte ∷ bytes) = not (begins_mark (byte ∷ bytes)) && (stays before byte && is_plain_behind byte bytes)
+is_plain_behind before (byte ∷ bytes) = not (begins_mark (byte ∷ bytes)) && (stays_plain before byte && is_plain_behind byte bytes)
 
 -- A line is made plain: a plain one stays as it is, in whatever script.
 abbrev pub IsMadePlain : List ℕ → List ℕ → Type 0

@@ -57,7 +57,7 @@ impl Account {
     #[tactic(auto, using(crate::proofs::AccountLemmas::added_more))]
     fn tell_words(&mut self, line: &[u8], roles: &[Role], shown: &[u8], before: Fate)
         ensures { spec.IsAdded self.old self.new
-            (spec.told before (spec.read_words (words_of line.now)) roles.now (words_of shown.now)) }
+            (spec.fates_told before (spec.read_words (words_of line.now)) roles.now (words_of shown.now)) }
     {
         match next_word(line) {
             Some((word, after)) if !begins_note(word) => {
@@ -134,7 +134,7 @@ impl Account {
     #[tactic(auto, using(crate::proofs::AccountLemmas::added_more, crate::proofs::AccountLemmas::added_nothing))]
     fn add_shown(&mut self, role: Role, spot: Spot, shown: &[u8])
         ensures { spec.IsAdded self.old self.new
-            (spec.shown_text role spot (words_of shown.now)) }
+            (spec.role_text role spot (words_of shown.now)) }
     {
         if let Some((word, rest)) = next_word(shown) {
             self.add_if(fits(role, spot, word), word);
@@ -213,13 +213,13 @@ fn is_guess(roles: &[Role], spot: Spot, word: &[u8]) -> bool
 
 /// Whether a word is read as it of which another may be meant as well.
 fn is_doubted(roles: &[Role], spot: Spot, word: &[u8]) -> bool
-    ensures { result ≡ list_any (λ role. spec.doubts role spot word.now) roles.now }
+    ensures { result ≡ list_any (λ role. spec.role_doubts role spot word.now) roles.now }
 {
     roles.iter().any(|role| doubts(*role, spot, word))
 }
 
 fn doubts(role: Role, spot: Spot, word: &[u8]) -> bool
-    ensures { result ≡ spec.doubts role spot word.now }
+    ensures { result ≡ spec.role_doubts role spot word.now }
 {
     matches!(role, Role::Likely(_) | Role::Winds) && fits(role, spot, word)
 }
@@ -233,7 +233,7 @@ fn is_read(roles: &[Role], spot: Spot, word: &[u8]) -> bool
 
 /// Whether a note begins with a word.
 pub(crate) fn begins_note(word: &[u8]) -> bool
-    ensures { result ≡ spec.begins_note word.now }
+    ensures { result ≡ spec.opens_note word.now }
 {
     match word {
         [first, ..] => *first == b'#',
@@ -322,7 +322,7 @@ fn fits(role: Role, spot: Spot, word: &[u8]) -> bool
 }
 
 fn has_key(key: Key, word: &[u8]) -> bool
-    ensures { result ≡ spec.has_key key word.now }
+    ensures { result ≡ spec.has_key_before key word.now }
 {
     match split_at_mark(word, b'=') {
         Some((name, _)) => key.name().as_bytes() == name,
@@ -344,7 +344,7 @@ fn stands_in(word: &[u8], other: &[u8]) -> bool
 /// Whether a word begins with these letters, in upper case or not.
 #[tactic(auto, using(crate::proofs::AccountLemmas::begins_nothing, crate::proofs::AccountLemmas::nothing_begins, crate::proofs::AccountLemmas::begins_more))]
 fn begins(word: &[u8], letters: &[u8]) -> bool
-    ensures { result ≡ spec.begins word.now letters.now }
+    ensures { result ≡ spec.begins_as word.now letters.now }
 {
     match letters {
         [] => true,
@@ -357,7 +357,7 @@ fn begins(word: &[u8], letters: &[u8]) -> bool
 
 /// A letter that is no capital, and `=` for a colon.
 fn small(letter: u8) -> u8
-    ensures { result ≡ spec.small letter }
+    ensures { result ≡ spec.small_byte letter }
 {
     match letter {
         b'A'..=b'Z' => letter + 32,

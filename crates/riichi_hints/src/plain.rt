@@ -1,6 +1,6 @@
 //! A line whose words are parted by spaces alone.
 ghost use Rattle.std.specs.Prelude.{◌≡◌, ◌<◌, ◌≤◌, ◌+◌, ◌-◌, [], ◌∷◌, ◌++◌, IfSome, length, slice_index, true};
-ghost use Rattle.riichi_hints.specs.Plain.{IsMadePlain, begins_mark, is_plain_behind, stays};
+ghost use Rattle.riichi_hints.specs.Plain.{IsMadePlain, begins_mark, is_plain_behind, stays_plain};
 
 use crate::text::{Line, MOST, add, add_all, last};
 
@@ -96,7 +96,7 @@ fn add_mark(plain: &mut Line, mark: u8) {
 
 /// A mark `=` or `:` takes the spaces beside it. `+` begins a word.
 fn add_byte(plain: &mut Line, byte: u8)
-    ensures { stays (slice_index plain.old.items (length plain.old.items - 1)) byte ≡ true
+    ensures { stays_plain (slice_index plain.old.items (length plain.old.items - 1)) byte ≡ true
         → length plain.old.items < MOST → plain.new.items ≡ plain.old.items ++ byte ∷ [] }
 {
     match byte {
@@ -116,7 +116,7 @@ fn add_byte(plain: &mut Line, byte: u8)
 }
 
 fn add_space(plain: &mut Line)
-    ensures { stays (slice_index plain.old.items (length plain.old.items - 1)) 32 ≡ true
+    ensures { stays_plain (slice_index plain.old.items (length plain.old.items - 1)) 32 ≡ true
         → length plain.old.items < MOST → plain.new.items ≡ plain.old.items ++ 32 ∷ [] }
 {
     if !matches!(last(plain.as_slice()), b' ' | b'=' | b':') {

@@ -30,8 +30,8 @@ has_hidden before (byte ∷ text) = hides before byte || has_hidden byte text
 abbrev pub is_seen : List ℕ → Bool
 is_seen text = not (has_hidden 0 text) && is_utf8 text
 
-abbrev pub seen : List ℕ → Option (List ℕ)
-seen text = if is_seen text then Some text else None
+abbrev pub seen_as_is : List ℕ → Option (List ℕ)
+seen_as_is text = if is_seen text then Some text else None
 
 -- ---- around a place
 
@@ -44,7 +44,7 @@ shown_line text = codes "  " ++ shown text ++ codes "\n"
 
 -- the same up to 36 bytes from the place on, and up to three fewer where a character would be cut
 abbrev pub seen_around : ℕ → List ℕ → Option (List ℕ)
-seen_around place text = option_or (seen (around 36 place text)) (option_or (seen (around 35 place text)) (option_or (seen (around 34 place text)) (seen (around 33 place text))))
+seen_around place text = option_or (seen_as_is (around 36 place text)) (option_or (seen_as_is (around 35 place text)) (option_or (seen_as_is (around 34 place text)) (seen_as_is (around 33 place text))))
 
 -- as it is where it is seen, else up to nine bytes from the place on
 abbrev pub foreign_text : ℕ → List ℕ → List ℕ

@@ -96,7 +96,7 @@ fn seen_around(line: &[u8], place: usize) -> Option<&str>
 /// A text whose characters are seen as they are, in whatever script; none where a byte is of no character, or where one controls
 /// terminals, parts lines, turns their direction or has no width. U+0080 to U+00BF and U+2000 to U+207F are taken for such.
 pub fn seen(text: &[u8]) -> Option<&str>
-    ensures { option_map (λ text. text.now) result ≡ spec.seen text.now }
+    ensures { option_map (λ text. text.now) result ≡ spec.seen_as_is text.now }
 {
     if has_hidden(0, text) {
         return None;
