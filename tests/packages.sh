@@ -27,6 +27,49 @@ same() {
   [[ $wanted != *-wanted ]] || lines=${wanted%-wanted}
   told "$name" "$(sha256sum < "$wanted")" "$("$@" < "$lines" 2> "$room/said" | sha256sum)"
 }
+# alike NAME COMMAND: the command answers as the program does, words and status, or says that it hasn't what the program has
+alike() {
+  local name=$1 command=$2 words
+  while IFS= read -r words; do
+    told "$name: $words" "$(eval "\"\$program\" $words" 2> "$room/said"; echo "status $?")" "$(eval "\"\$command\" $words" 2> "$room/said"; echo "status $?")"
+  done << 'rows'
+win 99978m444p567s22s on=9m by=ron seat=S round=E riichi=1
+win --rules 2-ura 234m567m345p67s99s on=5s by=ron seat=s round=E
+shape 123456789m1134p seen=2222p
+line --file examples/club-night.lines - examples/rules-two.lines < examples/rules.lines
+line --json --number --quiet --file examples/rules-two.lines
+line --json --workers 2 --file examples/rules-two.lines
+line --number --workers 2 --file examples/rules-two.lines
+explain --number --file examples/club-night.lines
+explain win 99978m444p567s22s on=9m by=ron seat=S round=E riichi=1
+explain 'waits 1112345678999m' 'waits 1m'
+explain --json --file examples/club-night.lines
+score --workers 2 --quiet examples/club-night.lines examples/rules-two.lines
+score --number examples/club-night.lines
+score examples/club-night.lines nowhere.lines
+line --file examples
+game --rules 2 examples/games/evening.game
+game nowhere.game
+win
+line --rules 1+red-five
+rows
+  while IFS= read -r words; do
+    told "$name has no $words" "2 ${words% nothing} is not here" "$(eval "\"\$command\" $words" 2> "$room/said" > "$room/answers"; echo "$? $(grep -o '[a-z].* is not here' "$room/said" | sed 's/.*: //')")"
+  done << 'rows'
+need nothing
+seats nothing
+standings nothing
+replay nothing
+help-codes
+help-rules
+help-yaku
+explain --all
+rows
+  told "$name without --sheet" 2 "$(eval "\"\$command\" game --sheet" 2> "$room/said" > "$room/answers"; echo $?)"
+  told "$name: a byte order mark" $'refused H1\n1' "$(printf '\xef\xbb\xbfrules 2' | "$command" line 2> "$room/said"; echo $?)"
+  told "$name: its words" 1 "$(grep -c 'standard input: a byte order mark' "$room/said")"
+  told "$name: UTF-16" 1 "$(printf '\xff\xfew\0' | "$command" line 2>&1 | grep -c 'standard input: the text is UTF-16')"
+}
 # has COMMAND..: whether all are here
 has() { for command in "$@"; do command -v "$command" > /dev/null || return 1; done; }
 
@@ -132,6 +175,8 @@ if [ -f "$script" ] && has npm node; then
   for form in 'line' 'line --json' 'explain'; do same "Node: $form --number" "numbered-${form##* }" "$command" $form --number; done
   told 'Node: numbers behind a line of rules' "$("$program" line --number < examples/rules-two.lines)" "$("$command" line --number < examples/rules-two.lines)"
   told 'Node: waits' 'waits 123456789m' "$("$command" waits 1112345678999m)"
+  told 'Node: waits of an open hand' 'waits 12345678m' "$("$command" waits 2223456777m open=pon:111z)"
+  alike Node "$command"
   told 'Node: rules' "$("$program" line --rules 2 < examples/rules.lines | sha256sum)" "$("$command" line --rules 2 < examples/rules.lines | sha256sum)"
   told 'Node: rules with changes' "$("$program" line --rules 2-ura+double-yakuman < examples/rules.lines | sha256sum)" "$("$command" line --rules 2-ura+double-yakuman < examples/rules.lines | sha256sum)"
   told 'Node: rules of a house' 'won 4 han 30 fu 7700 gain 7700 pinfu pure-straight dora 1' "$(cd "$shelf/node" && node --input-type=module -e '
@@ -187,6 +232,8 @@ if [ -f "$portable" ]; then
   for form in 'line' 'line --json' 'explain'; do same "one file of C: $form --number" "numbered-${form##* }" "$shelf/portable" $form --number; done
   told 'one file of C: numbers behind a line of rules' "$("$program" line --number < examples/rules-two.lines)" "$("$shelf/portable" line --number < examples/rules-two.lines)"
   told 'one file of C: waits' 'waits 123456789m' "$("$shelf/portable" waits 1112345678999m)"
+  told 'one file of C: waits of an open hand' 'waits 12345678m' "$("$shelf/portable" waits 2223456777m open=pon:111z)"
+  alike 'one file of C' "$shelf/portable"
   told 'one file of C: rules' "$("$program" line --rules 2 < examples/rules.lines | sha256sum)" "$("$shelf/portable" line --rules 2 < examples/rules.lines | sha256sum)"
   told 'one file of C: rules with changes' "$("$program" line --rules 2-ura+double-yakuman < examples/rules.lines | sha256sum)" "$("$shelf/portable" line --rules 2-ura+double-yakuman < examples/rules.lines | sha256sum)"
   told 'one file of C: a rule that there is not' 2 "$("$shelf/portable" line --rules 1+red-five < examples/rules.lines > "$room/said" 2>&1; echo $?)"

@@ -146,7 +146,7 @@ rm "$kit/sha256sum"
 # a changed source is seen, whatever its time says, and so is one that is gone; then nothing is proved
 echo 'run=ended status=0 proved=no' > "$kit/tried"
 source_file=$tree/crates/riichi_tiles/src/lib.rt
-unproved='desk: nothing is proved yet: this call runs the sources as they are, which takes a minute or two each time; ./prove proves them once, and from then on answers come at once'
+unproved='desk: nothing is proved yet: this call runs the sources as they are, which takes a minute or two each time; ./prove proves them once, in about an hour on four processors, and from then on answers come at once, as they do from a release of these sources (README.md), which is taken where it lies unpacked here'
 cp -p "$source_file" "$scripts/lib.rt"
 sed -i '1s/^/ /' "$source_file" && touch -r "$scripts/lib.rt" "$source_file"
 told 'a source with a blank more' "$unproved"$'\ntried: waits 1m\nstatus 0' "$(by_hand "$tree" ./desk waits 1m)"

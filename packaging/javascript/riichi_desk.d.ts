@@ -98,6 +98,8 @@ export function answerLines(text: Line, rules?: Rules): string;
 export function jsonLines(text: Line, rules?: Rules): string;
 /** The same as `answerLines`, and behind each answer the lines that explain it. */
 export function explainLines(text: Line, rules?: Rules): string;
+/** The same as `jsonLines`, and in the object of each win why it is so, as `why` has it. */
+export function explainJsonLines(text: Line, rules?: Rules): string;
 /** The answers to a whole text of games, as the command `game` writes them: a line for each deal, and behind the last line of each
  * game its places and final points, or how it stands. The rules are those for the hands of a game that names none. */
 export function game(text: Line, rules?: Rules): string;

@@ -142,6 +142,10 @@ export function explainLines(text, rules = 1) {
   return askLines(calls.riichi_explain_lines, text, rules);
 }
 
+export function explainJsonLines(text, rules = 1) {
+  return askLines(calls.riichi_explain_json_lines, text, rules);
+}
+
 export function game(text, rules = 1) {
   tested(rules);
   const bytes = bytesOf(text);

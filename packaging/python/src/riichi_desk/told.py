@@ -59,10 +59,15 @@ class Told:
 
         def __getattr__(self, name: str) -> object:
             """A field that isn't read yet. Of two threads that look at once both may read it."""
-            text = _text_of(self) if name != _HELD else ""
+            if name == _HELD:
+                raise AttributeError("no text is held")
+            text = getattr(self, _HELD, "")
             if text:
-                _hold(self, "__dict__", self._read(text))
-                _hold(self, _HELD, "")
+                told = self._read(text)
+                _hold(self, "__dict__", told)
+                _hold_text(self, "")
+                if name in told:
+                    return told[name]
             if name in self.__dict__:
                 return self.__dict__[name]
             raise AttributeError(f"{type(self).__name__} has no {name}")
@@ -70,6 +75,9 @@ class Told:
     def __reduce__(self) -> tuple[Any, ...]:
         text = _text_of(self)
         return (unread, (type(self), text)) if text else (type(self), tuple(getattr(self, it.name) for it in fields(self)))
+
+
+_hold_text = Told.__dict__[_HELD].__set__
 
 
 def _text_of(value: Told) -> str:
@@ -81,7 +89,7 @@ def _text_of(value: Told) -> str:
 def unread(sort: type[T], text: str) -> T:
     """The value of a sort that an object tells, which is not read yet."""
     value = _new(sort)
-    _hold(value, _HELD, text)
+    _hold_text(value, text)
     return value
 
 

@@ -31,9 +31,17 @@ def _yaku_of(rest: str) -> tuple[tuple[Yaku, ...], Optional[str]]:
 
 
 @lru_cache(maxsize=4096)
-def _payment_of(*paid: tuple[str, int]) -> Table[int]:
+def _worth_of(front: str) -> dict[str, Any]:
+    """What a win is worth, of what its object has up to there: the same for all wins that are worth as much."""
+    told = object_of(front + "}")
+    del told["answer"]
+    return told
+
+
+@lru_cache(maxsize=16384)
+def _payment_of(paid: str) -> Table[int]:
     """What each payer pays, once for all wins that are paid so."""
-    return Table(dict(paid))
+    return Table(object_of(paid + "}"))
 
 
 @dataclass(frozen=True)
@@ -55,12 +63,11 @@ class Won(Told):
 
     @classmethod
     def _read(cls, text: str) -> dict[str, Any]:
-        front, _, rest = text.partition(',"yaku":')
-        fields = object_of(front + "}")
-        del fields["answer"]
-        fields["payment"] = _payment_of(*fields["payment"].items())
-        fields["yaku"], fields["rules"] = _yaku_of(rest)
-        return fields
+        front, _, rest = text.partition(',"payment":')
+        paid, _, rest = rest.partition('},"gain":')
+        gain, _, rest = rest.partition(',"yaku":')
+        yaku, rules = _yaku_of(rest)
+        return {**_worth_of(front), "payment": _payment_of(paid), "gain": int(gain), "yaku": yaku, "rules": rules}
 
     def payments(self, winner: Wind, discarder: Wind | None = None) -> Table[int]:
         """What each other seat pays to a winner with this seat: for a win by ron the discarder alone, who has to be named.
