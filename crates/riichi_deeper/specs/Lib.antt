@@ -1,0 +1,4 @@
+pub mod Calls
+pub mod CallLaws
+pub mod Deeper
+pub mod Drawn
