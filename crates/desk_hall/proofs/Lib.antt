@@ -1,0 +1,10 @@
+pub mod Numbers
+pub mod LineLemmas
+pub mod FrontLemmas
+pub mod PlayLemmas
+pub mod SeenLemmas
+pub mod ComesTo
+pub mod DealsAfter
+pub mod FrontsStay
+pub mod TextFollows
+pub mod Apart

@@ -1,0 +1,9 @@
+pub mod Deals
+pub mod Fronts
+pub mod Playing
+pub mod Books
+pub mod Decided
+pub mod Seeing
+pub mod Messages
+pub mod Histories
+pub mod Laws
