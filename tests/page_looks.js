@@ -5,6 +5,8 @@ const named = (it) => it.getAttribute("aria-label") ?? it.textContent.trim().sli
 const boxOf = (name) => document.querySelector(name).getBoundingClientRect();
 
 const TYPED = "input[type=text], input[type=number], textarea";
+const CHOSEN = ".option input:checked + span, button[aria-pressed=true]";
+const UNCHOSEN = ".option input:not(:checked) + span, button[aria-pressed=false]";
 
 const parts = (colour) => colour.match(/[0-9.]+/g).map(Number);
 
@@ -25,7 +27,8 @@ function ground(it) {
   return colour.length < 4 || colour[3] > 0 ? colour : ground(it.parentElement);
 }
 
-// Text with a contrast under 4.5 to what is below it, and controls whose edge and ground have one under 3.
+// Text with a contrast under 4.5 to what is below it; fields whose edge has one under 3; and what is chosen, where its ground has one
+// under 3 to that of a choice beside it. A button is known by its words.
 function pale() {
   const found = [];
   for (const it of document.querySelectorAll("body *")) {
@@ -33,10 +36,10 @@ function pale() {
     const style = getComputedStyle(it);
     const hasText = [...it.childNodes].some((node) => node.nodeType === Node.TEXT_NODE && node.data.trim()) || it.matches(TYPED);
     if (hasText && ratio(parts(style.color), ground(it)) < 4.5) found.push(`text ${named(it)}`);
-    const isControl = it.matches(`button:not(.on-tile, .meld button), .button, .option span, ${TYPED}`);
-    const ends = [style.borderBlockEndColor, style.backgroundColor].map(parts).filter((colour) => colour[3] !== 0);
-    // A control that has neither an edge nor a ground of its own is known by its words.
-    if (isControl && ends.length > 0 && Math.max(...ends.map((end) => ratio(end, ground(it.parentElement)))) < 3) found.push(`edge of ${named(it)}`);
+    const isField = it.matches(`select, ${TYPED}`);
+    if (isField && ratio(parts(style.borderBlockEndColor), ground(it.parentElement)) < 3) found.push(`edge of ${named(it)}`);
+    const others = it.matches(CHOSEN) ? [...(it.closest(".choice, .group, .seats")?.querySelectorAll(UNCHOSEN) ?? [])] : [];
+    if (others.some((other) => ratio(ground(it), ground(other)) < 3)) found.push(`choice of ${named(it)}`);
   }
   return found;
 }

@@ -1,11 +1,14 @@
 // Elements of the page. Text that a person gave is only ever set as text.
 
-import { tileName } from "./names.js";
+import { named, tileName } from "./names.js";
 import { tilesIn } from "./tiles.js";
 import { language } from "./words.js";
 
 // What is written in Japanese, with a number before it.
 const JAPANESE = /([0-9]*[\p{sc=Han}\p{sc=Hira}\p{sc=Kana}ー・]+(?:[ /]+[\p{sc=Han}\p{sc=Hira}\p{sc=Kana}ー・]+)*)/u;
+
+// A screen on which two things stand side by side; layout.css and wide.css part there too.
+export const isWide = matchMedia("(min-width: 40rem)");
 
 // A text, or another child; Japanese within a text is marked as such.
 function marked(child) {
@@ -70,10 +73,11 @@ export function handDrawn({ hand, on, melds }) {
   return make("p", { class: "hand-drawn" }, ...groups.map(tilesDrawn));
 }
 
-// A text in which each group of tiles, as 789m or chi:123m, is drawn.
+// A text in which each group of tiles, as 789m or chi:123m, is drawn, and a meld has its name.
 export function textWithTiles(text) {
   const parts = text.split(/((?:[0-9]+[mps]|[1-7]+z)+(?![0-9a-z]))/);
-  return parts.map((part, at) => (at % 2 === 1 && tilesIn(part) ? tilesDrawn(tilesIn(part)) : part)).filter((part) => part !== "");
+  const words = (part) => part.replace(/\b(chi|pon|kan|ankan):$/, (_, word) => `${named(word)} `);
+  return parts.map((part, at) => (at % 2 === 1 && tilesIn(part) ? tilesDrawn(tilesIn(part)) : words(part))).filter((part) => part !== "");
 }
 
 // Says something for a moment, where a person sees it and a screen reader hears it.

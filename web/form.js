@@ -1,18 +1,19 @@
 // The form: the hand that is made, and what the person does to it.
 
 import { answerTo, lacks } from "./answers.js";
-import { doraOf, lackOfTiles } from "./asked.js";
-import { byId, drawing, label, make, tileButton } from "./elements.js";
+import { lackOfTiles } from "./asked.js";
+import { byId, label, make } from "./elements.js";
 import { moveTile, placeOfKind } from "./motion.js";
-import { nextTarget, taken, without, withoutMeld } from "./moves.js";
-import { named, tileName } from "./names.js";
+import { nextTarget, taken } from "./moves.js";
+import { named } from "./names.js";
 import { showPicker } from "./picker.js";
 import { MELD_WORDS } from "./record.js";
 import { hasReds } from "./rules.js";
 import { shownWhole } from "./shown.js";
 import { setBack, setEmpty, setLine, setRecord, state } from "./state.js";
 import { keepHand } from "./store.js";
-import { sorted, tileOf } from "./tiles.js";
+import { tileOf } from "./tiles.js";
+import { showTray } from "./tray.js";
 import { listed, phrase, within } from "./words.js";
 
 // Called after each change; `desk.js` keeps the choices by it.
@@ -68,62 +69,6 @@ function takeOut(list, record) {
   const left = byId(list).querySelectorAll("button");
   const next = left[Math.min(at, left.length - 1)] ?? document.querySelector("#picker [tabindex='0']");
   if (at >= 0) next.focus({ preventScroll: true });
-}
-
-function tileItem(list, name, tile, at) {
-  const out = () => takeOut(list, without(state.record, name, at));
-  return make("li", {}, tileButton(tile, phrase("take out tile", { tile: tileName(tile) }), out));
-}
-
-// An indicator, with the dora that it makes.
-function indicatorItem(name, tile, at) {
-  const dora = doraOf(tile);
-  const item = tileItem(name, name, tile, at);
-  if (dora === undefined) return item;
-  item.firstChild.append(make("span", { class: "tile makes" }, drawing(dora)));
-  label(item.firstChild, phrase("makes dora", { tile: tileName(tile), dora: tileName(dora) }));
-  return item;
-}
-
-// A tile of a hand. In a whole hand a tap makes it the winning one, which the next tap takes out.
-function tileOfHand(tile, at) {
-  const { record } = state;
-  if (record.job !== "win" || record.on.length === 0) return tileItem("tray", "hand", tile, at);
-  const [winning] = record.on;
-  const hand = sorted([...record.hand.filter((_, place) => place !== at), winning]);
-  const choose = () => takeOut("tray", { ...record, hand, on: [tile] });
-  return make("li", {}, tileButton(tile, phrase("make winning", { tile: tileName(tile) }), choose));
-}
-
-function emptySlot(word = "") {
-  return make("li", { class: "slot", "aria-hidden": "true" }, make("span", {}, word));
-}
-
-function meldItem({ word, tiles }, at) {
-  const name = phrase("take out tile", { tile: `${named(word)} ${listed(tiles.map(tileName))}` });
-  const faces = tiles.map((tile) => make("span", { class: "tile" }, drawing(tile)));
-  const mark = make("span", { class: "meld-word" }, named(word));
-  const press = () => takeOut("tray", withoutMeld(state.record, at));
-  return make("li", { class: "meld" }, label(make("button", { type: "button", click: press }, mark, ...faces), name));
-}
-
-// The hand, the tiles that it still lacks as empty places, the winning tile and the melds.
-function showTray() {
-  const { record } = state;
-  const hand = record.hand.map(tileOfHand);
-  const lacking = Array.from({ length: lackOfTiles(record) }, () => emptySlot());
-  const winning = record.on.map((tile, at) => tileItem("tray", "on", tile, at));
-  if (winning.length === 0) winning.push(emptySlot(phrase("slot win")));
-  for (const item of winning) {
-    item.classList.add("winning");
-    item.dataset.field = "on";
-    const button = item.querySelector("button");
-    if (button) label(button, phrase("is winning", { words: button.getAttribute("aria-label") }));
-  }
-  const melds = record.melds.map(meldItem);
-  byId("tray").replaceChildren(...hand, ...lacking, ...(record.job === "win" ? winning : []), ...melds);
-  for (const name of ["dora", "ura"]) byId(name).replaceChildren(...record[name].map((tile, at) => indicatorItem(name, tile, at)));
-  byId("seen").replaceChildren(...record.seen.map((tile, at) => tileItem("seen", "seen", tile, at)));
 }
 
 // Whether no tile is wanted any more.
@@ -199,7 +144,7 @@ function showAnswer() {
 export function showForm() {
   if (byId("line").value !== state.line) byId("line").value = state.line;
   showChoices();
-  showTray();
+  showTray(takeOut);
   showPicker();
   showAnswer();
   showFull();

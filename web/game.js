@@ -1,6 +1,6 @@
 // The mode Game: which screen is shown, and that all of it is kept.
 
-import { byId } from "./elements.js";
+import { byId, isWide } from "./elements.js";
 import { winNow } from "./draft.js";
 import { evening, takeUpEvening } from "./evening.js";
 import { count } from "./gamecount.js";
@@ -70,6 +70,7 @@ export function leaveGame() {
 export function listenToGame() {
   onTap(showGame);
   listenToTiles();
+  isWide.addEventListener("change", showGame);
   byId("count").addEventListener("click", tapped(count));
   takeUpEvening();
 }

@@ -78,16 +78,25 @@ function dealItem(game, step, at, before, differs) {
   );
 }
 
+// The deals so far, the newest first, to stand beside something else.
+export function dealsBeside(game) {
+  const items = game.steps.map((step, at) => dealItem(game, step, at)).reverse();
+  return items.length === 0 ? [] : [make("section", { class: "beside", "aria-label": phrase("deals") }, namesRow(game), make("ol", { class: "deals" }, ...items))];
+}
+
+function namesRow(game) {
+  return make("div", { class: "row-changes row-names" }, ...FOUR.map((who) => make("span", {}, nameOf(who, game))));
+}
+
 export function dealsScreen() {
   const game = wholeGame();
   const before = evening.was === null ? null : wholeGame(evening.was);
   const changed = before === null ? [] : differing(game.steps, before.steps);
   const items = game.steps.map((step, at) => dealItem(game, step, at, before?.steps[at], changed.includes(at)));
-  const four = make("div", { class: "row-changes row-names" }, ...FOUR.map((who) => make("span", {}, nameOf(who, game))));
   const sum = make("div", { class: "row-changes row-sum" }, ...FOUR.map((who) => make("span", {}, points(game.state.points[who]))));
   const note = changed.length > 0 ? [make("p", { class: "differs" }, phrase("changed help"))] : [];
   const none = items.length === 0 ? [quiet(phrase("no deals"))] : [];
-  return [head(phrase("deals"), goTo("table")), ...note, ...none, four, make("ol", { class: "deals" }, ...items), sum];
+  return [head(phrase("deals"), goTo("table")), ...note, ...none, namesRow(game), make("ol", { class: "deals" }, ...items), sum];
 }
 
 // ---- One deal
@@ -142,7 +151,7 @@ export function dealScreen() {
     head(stateWords(step.before.state), goTo("deals")),
     make("p", { class: "deal-title" }, outcomeText(step, game)),
     ...betText(step.outcome, game).map(quiet),
-    make("div", { class: "row-changes row-names" }, ...FOUR.map((who) => make("span", {}, nameOf(who, game)))),
+    namesRow(game),
     ...told,
     ...handsDrawn(step, game),
     noteField(step, at),

@@ -1,9 +1,10 @@
 // The table: how the game stands, and the first tap of each outcome.
 
 import { emptyDraft, turned } from "./draft.js";
-import { make } from "./elements.js";
+import { drawing, isWide, make } from "./elements.js";
 import { evening, standingGame, takeBackLines } from "./evening.js";
-import { changeClass, FOUR, goTo, head, headOfState, key, nameOf, stateWords, tapped, toggle } from "./gameparts.js";
+import { dealsBeside } from "./gamedeals.js";
+import { actions, changeClass, FOUR, goTo, head, headOfState, key, nameOf, stateWords, tapped, toggle } from "./gameparts.js";
 import { finalSheet, sheetButtons } from "./gamesheet.js";
 import { beginWin } from "./gamewin.js";
 import { windOf } from "./hands.js";
@@ -36,6 +37,18 @@ function lastChange({ steps }, who) {
   return change === 0 ? [] : [make("span", { class: `change ${changeClass(change)}` }, signed(change))];
 }
 
+// The wind of a seat: its tile, and its word.
+function windShown(wind) {
+  const kind = `${"ESWN".indexOf(wind) + 1}z`;
+  return make("span", { class: "wind" }, make("span", { class: "tile", "aria-hidden": "true" }, drawing(kind)), make("span", {}, named(wind)));
+}
+
+// What lies in the middle of the table, as the head of the screen says it too.
+function middle({ state }) {
+  const sticks = Array.from({ length: Math.min(state.sticks, 4) }, () => make("span", { class: "stick" }));
+  return make("li", { class: "middle", "aria-hidden": "true" }, make("p", {}, ...headOfState(state)), make("p", {}, ...sticks));
+}
+
 function seat(game, who) {
   const { draft } = evening;
   const wind = windOf(who, game.state);
@@ -45,7 +58,7 @@ function seat(game, who) {
   return make(
     "li",
     { class: "seat", "data-wind": wind, "data-who": String(who) },
-    make("p", { class: "seat-name" }, make("span", { class: "wind" }, named(wind)), ` ${name}`),
+    make("p", { class: "seat-name" }, windShown(wind), make("span", { class: "player" }, name)),
     make("p", { class: "seat-points" }, ...lastChange(game, who), " ", make("strong", {}, points(game.state.points[who]))),
     make(
       "div",
@@ -76,8 +89,9 @@ export function tableScreen() {
   const draw = key("draw", phrase("draw"), begin("draw", "draw", drawDraft()), { class: "main" });
   return [
     head(headOfState(game.state), goTo("games"), ...needButton(game), key("more", phrase("more"), goTo("more"))),
-    make("ol", { class: "seats", "aria-label": phrase("seats") }, ...FOUR.map((who) => seat(game, who))),
+    make("ol", { class: "seats", "aria-label": phrase("seats") }, ...FOUR.map((who) => seat(game, who)), middle(game)),
     make("div", { class: "table-bar" }, draw, key("deals", phrase("deals"), goTo("deals")), undoButton()),
+    ...(isWide.matches ? dealsBeside(game) : []),
   ];
 }
 

@@ -1,15 +1,12 @@
 // The picker: a button for each kind of tile. One of them is in the order of the Tab key, and the arrow keys move among them.
 
-import { byId, label, make, tileButton } from "./elements.js";
+import { byId, isWide, label, make, tileButton } from "./elements.js";
 import { meldTiles, taken } from "./moves.js";
 import { digitName, named, tileName } from "./names.js";
 import { MELD_WORDS } from "./record.js";
 import { state } from "./state.js";
 import { KINDS, SUITS, tileOf } from "./tiles.js";
 import { phrase } from "./words.js";
-
-// On a narrow screen the suits are columns, and the arrow keys go otherwise.
-const isWide = matchMedia("(min-width: 40rem)");
 
 // What each button shows.
 const shownOn = new Map();
@@ -43,6 +40,7 @@ function buttonFrom(button, key) {
   const rows = [...document.querySelectorAll("#picker .suit")].map((row) => [...row.querySelectorAll(".on-tile")]);
   const row = rows.findIndex((it) => it.includes(button));
   const at = rows[row].indexOf(button);
+  // On a narrow screen the suits are columns, and the arrow keys go otherwise.
   const keys = [["ArrowLeft", "ArrowRight"], ["ArrowUp", "ArrowDown"]];
   const [along, across] = isWide.matches ? keys : keys.reverse();
   if (key === "Home") return rows[row][0];

@@ -1,11 +1,11 @@
 // A refusal: its cause in the words of the page, what may stand there, and a line to try.
 
 import { sizesOf } from "./asked.js";
-import { make } from "./elements.js";
-import { tileName } from "./names.js";
+import { make, tilesDrawn } from "./elements.js";
+import { named, tileName } from "./names.js";
 import { recordOf, tilesOf } from "./record.js";
 import { countOf, KINDS } from "./tiles.js";
-import { colon, language, listed, phrase, within } from "./words.js";
+import { colon, listed, phrase, within } from "./words.js";
 
 // What each field is called.
 const FIELDS = {
@@ -50,21 +50,41 @@ function saidOf({ at = 0, length = 0, place, words }, { line, reasons }) {
   return [word === "" ? words : `${word}: ${words}`, ...known.map((row) => row.trim())];
 }
 
+// A value of a record as it is shown.
+function valueShown(key, value) {
+  if (key === "riichi") return [named(`riichi${value}`)];
+  if (key === "flags") return [listed(value.map(named))];
+  if (key === "melds") return value.flatMap(({ word, tiles }) => [`${named(word)} `, tilesDrawn(tiles)]);
+  return Array.isArray(value) ? [tilesDrawn(value)] : [["counters", "sticks"].includes(key) ? value : named(value)];
+}
+
+// What of the hand a line to try makes otherwise: the new value, or what is left out. Null where the page doesn't know the whole.
+function changesShown(line, other) {
+  const [now, then] = [line, other].map(recordOf);
+  if (now === null || then === null || now.job !== then.job) return null;
+  const changed = Object.keys(then).filter((key) => JSON.stringify(now[key]) !== JSON.stringify(then[key]));
+  const row = (key) => {
+    const name = colon(phrase(FIELDS[key === "melds" ? "open" : key]), "");
+    const isOut = then[key].length === 0;
+    return make("span", {}, name, make(isOut ? "s" : "span", {}, ...valueShown(key, isOut ? now[key] : then[key])));
+  };
+  return changed.length === 0 ? null : changed.map(row);
+}
+
 // A button that fills in the line to try; the page listens to what it tells.
-function tryButton(row) {
+function tryButton(row, { line: now }) {
   const line = row.replace(TRY, "");
-  const press = ({ target }) => target.dispatchEvent(new CustomEvent("tryline", { bubbles: true, detail: line }));
-  return make("button", { type: "button", class: "try", click: press }, colon(phrase("try"), line));
+  const press = ({ currentTarget }) => currentTarget.dispatchEvent(new CustomEvent("tryline", { bubbles: true, detail: line }));
+  return make("button", { type: "button", class: "try", title: line, click: press }, colon(phrase("try"), ""), ...(changesShown(now, line) ?? [line]));
 }
 
 export function shownRefusal(answer, about) {
   const cause = causeOf(answer, about);
   const mark = cause === phrase("refused") ? [] : [make("p", { class: "quiet" }, phrase("refused"))];
   const box = make("div", { class: "refused" }, make("p", { class: "headline" }, cause), ...mark);
-  box.append(...about.reasons.filter((row) => TRY.test(row)).map(tryButton));
-  // What the library says is in English: in another language it stands where the page has no words of its own.
-  const isSaid = language() === "en" || mark.length === 0;
-  if (isSaid) box.append(...saidOf(answer, about).map((row) => make("p", { class: "reason", lang: "en" }, row)));
+  box.append(...about.reasons.filter((row) => TRY.test(row)).map((row) => tryButton(row, about)));
+  // What the library says, in English and in the words of a line, stands where the page has no words of its own.
+  if (mark.length === 0) box.append(...saidOf(answer, about).map((row) => make("p", { class: "reason", lang: "en" }, row)));
   box.append(make("p", {}, phrase("look at", { what: within(phrase(FIELDS[answer.key] ?? "line")) })));
   if (answer.place !== undefined) box.append(placeShown(answer, about.line));
   return [box];

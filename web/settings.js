@@ -5,7 +5,7 @@ import { showForm, showNames } from "./form.js";
 import { hasRule, houseOf, isHouse, ruleName, RULES, rulesShort, withRule } from "./rules.js";
 import { state } from "./state.js";
 import { isKept } from "./store.js";
-import { phrase, speak } from "./words.js";
+import { colon, phrase, speak } from "./words.js";
 
 const isDark = matchMedia("(prefers-color-scheme: dark)");
 
@@ -35,6 +35,8 @@ export function showSettings() {
   byId("house").hidden = !isHouse(rules);
   for (const input of document.querySelectorAll("#house input")) input.checked = hasRule(rules, Number(input.value));
   byId("rules-now").textContent = rulesShort(rules);
+  byId("open-settings").setAttribute("aria-label", colon(`${phrase("rules")} ${rulesShort(rules)}`, phrase("settings")));
+  byId("open-settings").title = phrase("settings");
 }
 
 // A box for each rule that a house may choose.
