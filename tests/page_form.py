@@ -148,7 +148,7 @@ def test_refusals(browser: Browser) -> None:
 
 # The discards as they are shown, in the words of the answer.
 DISCARDS = """[...document.querySelectorAll('#answer .discards > li')].map((it) => {
-  const kind = (tile) => tile.querySelector('use').getAttribute('href').slice('#face-'.length);
+  const kind = (tile) => tile.querySelector('.face').dataset.face;
   const accepted = [...it.querySelectorAll('.accepted li')].map((one) => ' ' + kind(one) + ':' + one.textContent.slice(1)).join('');
   return 'discard ' + kind(it) + ' accepts' + (accepted || ' -') + ' live ' + it.children[1].textContent.split(' ')[0];
 })"""

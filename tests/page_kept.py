@@ -124,7 +124,7 @@ def test_sheet(browser: Browser, folder: Path) -> None:
     browser.ask("Emulation.setEmulatedMedia", media="print")
     browser.picture(folder / "paper.png", whole=True)
     shown = browser.run("[...document.body.children].filter(it => getComputedStyle(it).display !== 'none').map(it => it.id)")
-    told("nothing else is on paper", ["faces", "paper"], shown)
+    told("nothing else is on paper", ["paper"], shown)
     browser.ask("Emulation.setEmulatedMedia", media="")
     browser.key("Escape")
     told("Escape closes the sheet", False, browser.run("document.getElementById('sheet').open"))

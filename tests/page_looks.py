@@ -4,6 +4,7 @@ what is touched, words that are cut, names, and the order of the focus. page_loo
 from __future__ import annotations
 
 from pathlib import Path
+from urllib.parse import unquote
 
 from browser import Browser
 from page_rows import ANSWER, PAGE, attribute, choose, fresh, set_choice, told, type_line
@@ -187,6 +188,12 @@ def test_focus(browser: Browser) -> None:
         told(f"{width}: back", stops[-2]["name"], measured(browser, "focus")["name"])
 
 
+def picture(browser: Browser, tile: str) -> str:
+    """The drawing of a tile, which is a ground in the styles."""
+    rules = "[...document.styleSheets].flatMap(it => [...it.cssRules]).map(it => it.cssText)"
+    return unquote(browser.run(f"{rules}.find(it => it.includes('data-face=\"{tile}\"'))"))
+
+
 def test_without_colour(browser: Browser) -> None:
     """A choice, a refusal and a red five are told otherwise than by a colour too."""
     fresh(browser)
@@ -195,7 +202,7 @@ def test_without_colour(browser: Browser) -> None:
     told("a refused field has a word", '"refused"', mark)
     weight = browser.run("getComputedStyle(document.querySelector('#fields input:checked + span')).fontWeight")
     told("a choice is bold", True, int(weight) > 600)
-    red, plain = (browser.run(f"document.getElementById('face-{tile}').innerHTML") for tile in ("0p", "5p"))
+    red, plain = (picture(browser, tile) for tile in ("0p", "5p"))
     told("a red five has a zero", True, ">0</text>" in red)
     told("and a dot", plain.count("<circle") + 1, red.count("<circle"))
     told("the refusal is said", True, "Refused" in browser.run(ANSWER))

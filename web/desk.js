@@ -1,7 +1,7 @@
 // The start of the page.
 
 import { byId } from "./elements.js";
-import { facesOfAll } from "./faces.js";
+import { styleFaces } from "./faces.js";
 import { aim, changeLine, choose, clearAll, onChange, openHand, showForm, step, takeBack, takeTile, turnRed } from "./form.js";
 import { leaveGame, listenToGame, showGame } from "./game.js";
 import { gamePaper } from "./gamesheet.js";
@@ -142,7 +142,7 @@ async function start() {
   } catch (failure) {
     return refuseToRun(`The library doesn't start: ${failure.message}.`);
   }
-  byId("faces").innerHTML = facesOfAll();
+  styleFaces();
   makePicker(takeTile, takeBack);
   listen();
   listenToSettings();

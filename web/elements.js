@@ -42,13 +42,7 @@ export function byId(id) {
 
 // The drawing of a tile, which says nothing to those who can't see it.
 export function drawing(tile) {
-  const svg = document.createElementNS("http://www.w3.org/2000/svg", "svg");
-  const use = document.createElementNS("http://www.w3.org/2000/svg", "use");
-  use.setAttribute("href", `#face-${tile}`);
-  svg.setAttribute("viewBox", "0 0 30 40");
-  svg.setAttribute("aria-hidden", "true");
-  svg.append(use);
-  return svg;
+  return make("span", { class: "face", "data-face": tile });
 }
 
 // A tile as a picture with its name.

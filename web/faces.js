@@ -52,15 +52,19 @@ const CANES = [
   [[12, 50, 88], [12, 50, 88], [12, 50, 88]],
 ];
 
+// A picture stands for itself, so its inks aren't those of the styles.
+const GAP = "#fdfbf4";
+const INKS = { black: "#1d1d1f", index: "#55534b", red: "#b01f24", green: "#14633c", blue: "#1d4f91" };
+
 // A stroke of this ink.
 function stroke(path, ink, width) {
-  const line = `fill="none" stroke="var(--ink-${ink})" stroke-width="${width}" stroke-linecap="round" stroke-linejoin="round"`;
+  const line = `fill="none" stroke="${INKS[ink]}" stroke-width="${width}" stroke-linecap="round" stroke-linejoin="round"`;
   return `<path d="${path}" ${line}/>`;
 }
 
 function ring(across, down, radius, ink) {
   const center = `cx="${6 + across * 0.18}" cy="${14 + down * 0.195}"`;
-  return `<circle ${center} r="${radius}" fill="var(--ink-${ink})"/><circle ${center} r="${radius * 0.45}" fill="var(--face)"/>`;
+  return `<circle ${center} r="${radius * 0.725}" fill="none" stroke="${INKS[ink]}" stroke-width="${radius * 0.55}"/>`;
 }
 
 function circlesFace(number, ink) {
@@ -75,7 +79,7 @@ function cane(across, top, height, ink) {
   const width = height > 20 ? 5 : 3;
   return (
     stroke(`M${x} ${top + width / 2}V${top + height - width / 2}`, ink, width) +
-    `<path d="M${x - width * 0.4} ${middle}H${x + width * 0.4}" stroke="var(--face)" stroke-width="0.9"/>`
+    `<path d="M${x - width * 0.4} ${middle}H${x + width * 0.4}" stroke="${GAP}" stroke-width="0.9"/>`
   );
 }
 
@@ -102,19 +106,26 @@ function honourFace(number) {
 function indexOf(tile) {
   const text = tile[1] === "z" ? HONOUR_INDEXES[tile[0] - 1] : tile[0];
   const ink = isRed(tile) ? "red" : "index";
-  return `<text x="3.5" y="9" font-size="8" font-weight="700" fill="var(--ink-${ink})">${text}</text>`;
+  return `<text x="3.5" y="9" font-family="sans-serif" font-size="8" font-weight="700" fill="${INKS[ink]}">${text}</text>`;
 }
 
 function face(tile) {
   const [digit, suit] = kindOf(tile);
   const draw = { m: charactersFace, p: circlesFace, s: bamboosFace, z: honourFace }[suit];
-  const mark = isRed(tile) ? `<circle cx="24" cy="6" r="2.5" fill="var(--ink-red)"/>` : "";
+  const mark = isRed(tile) ? `<circle cx="24" cy="6" r="2.5" fill="${INKS.red}"/>` : "";
   return indexOf(tile) + mark + draw(Number(digit), isRed(tile) ? "red" : undefined);
 }
 
-// The faces of all tiles, as symbols that the page draws by their names.
-export function facesOfAll() {
-  const symbol = (tile) => `<symbol id="face-${tile}" viewBox="0 0 30 40">${face(tile)}</symbol>`;
-  const symbols = [...KINDS, "0m", "0p", "0s"].map(symbol);
-  return `<svg width="0" height="0" aria-hidden="true" focusable="false">${symbols.join("")}</svg>`;
+// The face of a tile as a picture of its own.
+export function faceImage(tile) {
+  return `<svg xmlns="http://www.w3.org/2000/svg" viewBox="0 0 30 40">${face(tile)}</svg>`;
+}
+
+// Gives the page a rule for each tile: its face is the ground of one element, which is less work than a drawing of many.
+export function styleFaces() {
+  const [styles] = document.styleSheets;
+  for (const tile of [...KINDS, "0m", "0p", "0s"]) {
+    const image = `url("data:image/svg+xml,${encodeURIComponent(faceImage(tile))}")`;
+    styles.insertRule(`[data-face="${tile}"] { background-image: ${image} }`, styles.cssRules.length);
+  }
 }

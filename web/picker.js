@@ -88,6 +88,6 @@ export function showPicker() {
     button.setAttribute("aria-disabled", String(!isFree));
     label(button, name);
     button.dataset.meld = meld;
-    button.querySelector("use").setAttribute("href", `#face-${tile}`);
+    button.querySelector(".face").dataset.face = tile;
   }
 }
