@@ -2,7 +2,7 @@
 
 import { byId, make, say } from "./elements.js";
 import { beginGame, evening, openGame, wholeGame } from "./evening.js";
-import { dealWords, FOUR, goTo, head, key, nameOf, tapped } from "./gameparts.js";
+import { actions, dealWords, FOUR, goTo, head, key, nameOf, quiet, tapped } from "./gameparts.js";
 import { gamesOfText } from "./gametext.js";
 import { outcomeText } from "./gamedeals.js";
 import { points, signed, thousands } from "./numbers.js";
