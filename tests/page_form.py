@@ -51,7 +51,7 @@ def test_taps(browser: Browser) -> None:
     told("counters and sticks", ["counters=1", "sticks=1"], browser.run(LINE).split()[-2:])
     browser.tap("[data-target=dora]")
     tap_tiles(browser, "9m")
-    told("an indicator, and the dora that it makes", ["9m", "1m"], browser.run("[...document.querySelectorAll('#dora use')].map(it => it.getAttribute('href').slice(6))"))
+    told("an indicator, and the dora that it makes", ["9m", "1m"], browser.run("[...document.querySelectorAll('#dora .face')].map(it => it.dataset.face)"))
     browser.tap("#new")
     told("a new hand keeps the round alone", "win round=E", browser.run(LINE))
     choose(browser, "mode", "shape")
@@ -141,7 +141,9 @@ def test_refusals(browser: Browser) -> None:
         told(f"{given}: field", field, browser.run(FAULTY))
         said = said_of("explain", lines=[given])[1:]
         words = re.sub(r"^ *(\^ )?", "", said[-1] if " at " in answer else said[0])
-        told(f"{given}: words of the library", True, words in text(browser, "#answer"))
+        # where the page has no words of its own
+        has_cause = browser.run("document.querySelector('#answer .refused .quiet') !== null")
+        told(f"{given}: a cause of the page, or words of the library", not has_cause, words in text(browser, "#answer"))
     type_line(browser, "win 111m234m567p678s9s on=9s by=ron seat=S round=E dora=11m")
     told("five of a kind", "refused H9", browser.run(RAW))
 
@@ -185,7 +187,7 @@ def test_explanations(browser: Browser) -> None:
         type_line(browser, line)
         said = said_of("explain", lines=[line])[1:]
         told(f"{line}: some rows", True, len(said) > 0)
-        wanted = [re.sub(r"([0-9]+[mps]|[1-7]+z)+(?![0-9a-z])", "", " ".join(row.split())) for row in said]
+        wanted = [re.sub(r"([0-9]+[mps]|[1-7]+z)+(?![0-9a-z])", "", " ".join(row.split())).replace("chi:", "Chi ") for row in said]
         rows = zip(texts(browser, "#answer .why dt"), texts(browser, "#answer .why dd"), strict=True)
         told(f"{line}: rows", wanted, [f"{word} {said}" for word, said in rows])
 

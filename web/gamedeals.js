@@ -5,7 +5,7 @@ import { draftOf } from "./draft.js";
 import { make, textWithTiles } from "./elements.js";
 import { changeLines, evening, keepEvening, wholeGame } from "./evening.js";
 import {
-  actions, changeClass, dealWords, faultWords, FOUR, goTo, head, key, nameOf, quiet, reasonsOf, sizeText, stateWords, tapped,
+  actions, changeClass, dealWords, faultWords, field, FOUR, goTo, head, key, nameOf, quiet, reasonsOf, sizeText, stateWords, tapped,
 } from "./gameparts.js";
 import { knownRecord } from "./hands.js";
 import { betsOf, withNote } from "./notation.js";
@@ -136,7 +136,7 @@ function noteField(step, at) {
     evening.lines = evening.lines.map((line, place) => (place === at + 1 ? withNote(line, input.value) : line));
     keepEvening();
   });
-  return make("label", { class: "field" }, phrase("note"), input);
+  return field(phrase("note"), input);
 }
 
 export function dealScreen() {

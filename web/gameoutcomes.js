@@ -5,7 +5,7 @@ import { turned } from "./draft.js";
 import { make } from "./elements.js";
 import { evening, keepEvening } from "./evening.js";
 import { baseGame, countBar } from "./gamecount.js";
-import { FOUR, group, head, nameOf, playerButtons, quiet, tapped, titled, toggle } from "./gameparts.js";
+import { field, FOUR, group, head, nameOf, playerButtons, quiet, tapped, titled, toggle } from "./gameparts.js";
 import { betButtons, leaveOutcome } from "./gamewin.js";
 import { named } from "./names.js";
 import { points } from "./numbers.js";
@@ -65,7 +65,7 @@ function numberField(name, words, value, take) {
     keepEvening();
   });
   input.addEventListener("change", tapped(() => {}));
-  return make("label", { class: "field" }, words, input);
+  return field(words, input);
 }
 
 export function penaltyScreen() {

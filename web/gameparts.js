@@ -63,6 +63,11 @@ export function titled(words, ...children) {
   return make("div", { class: "titled" }, make("p", { class: "title", "aria-hidden": "true" }, words), ...children);
 }
 
+// A field below its name.
+export function field(words, input) {
+  return make("label", { class: "field" }, make("span", {}, words), input);
+}
+
 // The head of a screen: the way back, and its name.
 export function head(words, back, ...more) {
   const way = back === null ? [] : [key("back", "‹", back, { class: "way-back", "aria-label": phrase("back") })];

@@ -3,7 +3,7 @@
 import { rulesText } from "./answers.js";
 import { make, say } from "./elements.js";
 import { beginGame, dropGame, evening, gameIds, keepEvening, linesOfGame, openGame, standingGame, wholeGame } from "./evening.js";
-import { actions, FOUR, goTo, group, head, key, nameOf, quiet, stateWords, tapped, titled, toggle } from "./gameparts.js";
+import { actions, field, FOUR, goTo, group, head, key, nameOf, quiet, stateWords, tapped, titled, toggle } from "./gameparts.js";
 import { dateOf } from "./gamesheet.js";
 import { points, thousands } from "./numbers.js";
 import { state } from "./state.js";
@@ -27,7 +27,7 @@ function nameField(at) {
     setup.names[at] = input.value;
     keepEvening();
   });
-  return make("label", { class: "field" }, phrase(`seat ${at}`), input);
+  return field(phrase(`seat ${at}`), input);
 }
 
 function chooseTable(name) {
@@ -50,7 +50,7 @@ function ruleSelect(rule, values) {
   for (const value of values) select.append(make("option", { value }, words[value] ?? phrase(`${rule.word} ${value}`)));
   select.value = rule.values === undefined ? (now ? "on" : "off") : String(now);
   select.addEventListener("change", () => tapped(() => setRule(rule, valueOfRule(rule, select.value)))());
-  return make("label", { class: "field" }, phrase(`rule ${rule.word}`), select);
+  return field(phrase(`rule ${rule.word}`), select);
 }
 
 function numberText(rule, value) {
@@ -70,7 +70,7 @@ function ruleNumber(rule) {
     if (written !== undefined) setRule(rule, written);
     keepEvening();
   });
-  return make("label", { class: "field" }, phrase(`rule ${rule.word}`), input);
+  return field(phrase(`rule ${rule.word}`), input);
 }
 
 function ruleField(rule) {
