@@ -1,6 +1,7 @@
 // What tests/page_looks.py measures in the page: each function gives a list of what isn't as it should be.
 
-const isShown = (it) => it.checkVisibility();
+// After a resize WebKit tells of visibility by the layout before it, until a box is asked for: then one that is hidden now had none.
+const isShown = (it) => it.getBoundingClientRect() && it.checkVisibility();
 const named = (it) => it.getAttribute("aria-label") ?? it.textContent.trim().slice(0, 20);
 const boxOf = (name) => document.querySelector(name).getBoundingClientRect();
 
