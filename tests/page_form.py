@@ -174,7 +174,8 @@ def test_shapes(browser: Browser) -> None:
 
 
 def test_explanations(browser: Browser) -> None:
-    """The rows of an explanation are those of the command `explain`; tiles are drawn, so their text is left out here."""
+    """The rows of an explanation are those of the command `explain`; tiles are drawn, so their text is left out here, melds have their
+    names, and points are written as everywhere on the page."""
     fresh(browser)
     lines = [
         "win 99978m444p567s22s on=9m by=ron seat=S round=E riichi=1",
@@ -188,6 +189,7 @@ def test_explanations(browser: Browser) -> None:
         said = said_of("explain", lines=[line])[1:]
         told(f"{line}: some rows", True, len(said) > 0)
         wanted = [re.sub(r"([0-9]+[mps]|[1-7]+z)+(?![0-9a-z])", "", " ".join(row.split())).replace("chi:", "Chi ") for row in said]
+        wanted = [re.sub(r"\b([0-9]+)([0-9]{3})\b", "\\1\u202f\\2", row) for row in wanted]
         rows = zip(texts(browser, "#answer .why dt"), texts(browser, "#answer .why dd"), strict=True)
         told(f"{line}: rows", wanted, [f"{word} {said}" for word, said in rows])
 

@@ -79,10 +79,11 @@ function shownRow(word, parts, about = {}) {
 
 // ---- Waits and shapes, whose reasons the library tells as text alone
 
-// A row as the library writes it: its first word, and the others.
+// A row as the library writes it: its first word, and the others. Points are written as everywhere on the page.
 function plainRow(row) {
   const [, word, text] = /^ *(\S+) *(.*)$/.exec(row) ?? [null, row, ""];
-  return shownRow(textWithTiles(word), textWithTiles(text), { lang: "en" });
+  const written = text.replace(/\b[0-9]{4,}\b/g, (number) => points(Number(number)));
+  return shownRow(textWithTiles(word), textWithTiles(written), { lang: "en" });
 }
 
 // A kind that a hand waits for: how many of it are left, and how they complete the hand.
