@@ -9,7 +9,7 @@ import re
 from pathlib import Path
 
 from browser import Browser
-from page_looks import SIZES, measured, sound
+from page_looks import SIZES, measured, named_roles, sound
 from page_rows import fresh, said_of, text, texts, tiles_of, told
 
 PHONE = (360, 640)
@@ -315,6 +315,22 @@ def test_game_zoomed(browser: Browser, folder: Path) -> None:
     """At 200 % on a laptop nothing of a game is lost."""
     browser.zoom(*SIZES[3])
     look_at_game(browser, "zoomed", folder)
+
+
+def test_game_names(browser: Browser) -> None:
+    """Each control of each screen has a name of its own for a screen reader (equal tiles have the same), and with the most space between letters none is cut."""
+    browser.size(*PHONE, touch=True)
+    for name in SCREENS:
+        fresh(browser)
+        if name != "game-setup":
+            open_text(browser, EVENING)
+        show_screen(browser, name)
+        roles = named_roles(browser)
+        told(f"{name}: controls without a name", [], [role for role, said in roles if not said])
+        buttons = [said for role, said in roles if role == "button"]
+        told(f"{name}: two buttons of one name", [], sorted({said for said in buttons if buttons.count(said) > 1 and " of " not in said}))
+        measured(browser, "space")
+        sound(browser, f"{name} spaced", "tooWide", "cut")
 
 
 def test_game_focus(browser: Browser) -> None:

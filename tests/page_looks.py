@@ -146,16 +146,22 @@ def test_lying(browser: Browser) -> None:
         sound(browser, f"{width}x{height}", "tooWide", "below", "small", "cut", "broken")
 
 
+def named_roles(browser: Browser) -> list[tuple[str, str]]:
+    """What of the page must have a name for a screen reader, with the name."""
+    wanted = {"button", "radio", "checkbox", "combobox", "textbox", "spinbutton", "link", "image", "radiogroup", "region", "dialog", "heading"}
+    nodes = [node for node in browser.ask("Accessibility.getFullAXTree")["nodes"] if not node.get("ignored")]
+    roles = [(node.get("role", {}).get("value"), node.get("name", {}).get("value", "")) for node in nodes]
+    return [(role, name) for role, name in roles if role in wanted]
+
+
 def test_names_of_controls(browser: Browser) -> None:
     """Each control has a name for a screen reader, and so has each tile and answer."""
     browser.size(*SIZES[3])
     fresh(browser)
     type_line(browser, VIEWS["win"])
-    wanted = {"button", "radio", "checkbox", "textbox", "spinbutton", "link", "image", "radiogroup", "region", "dialog"}
-    nodes = [node for node in browser.ask("Accessibility.getFullAXTree")["nodes"] if not node.get("ignored")]
-    roles = [(node.get("role", {}).get("value"), node.get("name", {}).get("value", "")) for node in nodes]
-    told("controls without a name", [], [role for role, name in roles if role in wanted and not name])
-    told("tiles, choices and buttons", True, sum(role in wanted for role, _ in roles) > 70)
+    roles = named_roles(browser)
+    told("controls without a name", [], [role for role, name in roles if not name])
+    told("tiles, choices and buttons", True, len(roles) > 70)
     names = {name for _, name in roles}
     read_aloud = {"1 of characters", "White dragon", "Winning tile. Take out 5 of bamboos", "2 of characters: make it the winning tile", "East, the dealer", "Answer", "Counters"}
     told("names that are read aloud", set(), read_aloud - names)

@@ -49,22 +49,18 @@ export function showGame() {
   byId("game").dataset.screen = isTapped ? "tiles" : evening.screen;
   document.documentElement.dataset.game = byId("game").dataset.screen;
   byId("one").hidden = !isTapped;
-  if (!isTapped) leaveTiles();
+  // The form isn't in sight: it is shown anew with its tab.
+  if (!isTapped && state.aside !== null) takeForth();
   if (isTapped) showTiles(() => showParts(tilesHead(), tilesFields()));
   else showParts(SCREENS[evening.screen]());
 }
 
-// The form is that of the tabs again.
-function leaveTiles() {
+export function leaveGame() {
+  delete document.documentElement.dataset.game;
+  shownScreen = "";
   if (state.aside === null) return;
   takeForth();
   showForm();
-}
-
-export function leaveGame() {
-  delete document.documentElement.dataset.game;
-  leaveTiles();
-  shownScreen = "";
 }
 
 export function listenToGame() {
