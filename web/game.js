@@ -49,10 +49,16 @@ export function showGame() {
   byId("game").dataset.screen = isTapped ? "tiles" : evening.screen;
   document.documentElement.dataset.game = byId("game").dataset.screen;
   byId("one").hidden = !isTapped;
-  // The form isn't in sight: it is shown anew with its tab.
-  if (!isTapped && state.aside !== null) takeForth();
+  if (!isTapped) putFormAway();
   if (isTapped) showTiles(() => showParts(tilesHead(), tilesFields()));
   else showParts(SCREENS[evening.screen]());
+}
+
+// The form isn't in sight any more: it is shown anew with its tab.
+function putFormAway() {
+  if (state.aside === null) return;
+  takeForth();
+  byId("answer").replaceChildren();
 }
 
 export function leaveGame() {
