@@ -5,7 +5,6 @@ from __future__ import annotations
 
 import json
 import random
-import time
 
 from browser import Browser
 from page_game import PHONE, begin_game, control, game_text
@@ -50,8 +49,20 @@ def test_game_killed(browser: Browser) -> None:
     told("the text is read by the command", [], [it for it in said_of("game", lines=game_text(browser).splitlines()) if it.startswith("refused")])
 
 
+# What was given to the second copy before is on the disk.
+WRITTEN = """new Promise((done, fail) => {
+  const opened = indexedDB.open('riichi_desk');
+  opened.onerror = fail;
+  opened.onsuccess = () => {
+    const turn = opened.result.transaction('kept', 'readwrite', { durability: 'strict' });
+    turn.oncomplete = () => done(opened.result.close());
+    turn.objectStore('kept').count();
+  };
+})"""
+
+
 def test_game_power(browser: Browser) -> None:
-    """The whole browser is killed a fifth of a second after a tap: nothing is lost."""
+    """The whole browser is killed as soon as it says that what it was given before is on the disk: nothing is lost."""
     other = Browser(browser.program)
     try:
         fresh(other)
@@ -60,7 +71,7 @@ def test_game_power(browser: Browser) -> None:
         for key in ("bet-1", "win-2", "from-tsumo", "limit-mangan", "count", "draw", "ready-3", "count"):
             other.run(f"document.querySelector({json.dumps(control(key))}).click()")
             before = other.run(SHOWN), game_text(other)
-            time.sleep(0.2)
+            other.run(WRITTEN)
             other = other.begun_again()
             other.open(PAGE)
             if before != (other.run(SHOWN), game_text(other)):
