@@ -5,7 +5,6 @@
 
 #[cfg(test)]
 mod facts;
-#[cfg(test)]
 mod letters;
 #[cfg(test)]
 mod messages;
