@@ -204,7 +204,7 @@ fn put_said_end(manner: Manner, step: &Step<'_>, outbox: &mut Outbox)
 pub(crate) fn put_stands(manner: Manner, state: &GameState, outbox: &mut Outbox)
     requires { HasRoomForText outbox.old }
     ensures { outbox.new.bytes.items ≡ outbox.old.bytes.items
-        ++ with_line_feed (Some (front_text manner.form manner.front ++ stands_in manner.form state.now)) }
+        ++ with_line_feed (Some (front_text manner.form manner.front ++ stands_told manner.form state.now)) }
 {
     begin_text(manner, &mut outbox.text);
     match manner.form.writing() {
