@@ -11,7 +11,8 @@ use riichi_tiles::{Counts, Kind, Meld};
 
 /// The tiles that are left where a meld is laid down, or none where not all of its tiles are there.
 fn laid_down(held: &Counts, meld: &Meld) -> Option<Counts>
-    ensures { result ≡ (if spec.has_meld held.now meld.now then Some (spec.laid_down held.now meld.now) else None) }
+    ensures { result ≡ (if spec.has_meld held.now meld.now
+        then Some (spec.laid_down held.now meld.now) else None) }
 {
     let mut left = held.to_array();
     for number in 0..34u8 {
@@ -32,7 +33,8 @@ pub(crate) fn after_call(asked: &ShapeRecord, tile: Kind, meld: &Meld) -> Option
     requires proper { is_meld meld.now ≡ true }
     requires has_tile { 0 < tiles_of meld.now tile }
     ensures can { IfSome result (λ after. CanCall asked.now tile meld.now) }
-    ensures value { result ≡ (if spec.has_meld (with_one asked.now.tiles tile) meld.now then Some (spec.parts_after asked.now tile meld.now) else None) }
+    ensures value { result ≡ (if spec.has_meld (with_one asked.now.tiles tile) meld.now
+        then Some (spec.parts_after asked.now tile meld.now) else None) }
 {
     let _inside = tile.index();
     let mut tiles = asked.tiles();

@@ -36,7 +36,8 @@ pub enum Claim {
 fn run_below(tile: Kind, down: u8) -> Option<Meld>
     requires { down ≤ 2 }
     ensures value { result ≡ spec.run_from (nat_le down tile) (tile - down) }
-    ensures proper { IfSome result (λ meld. (is_meld meld ≡ true) × (is_kong meld ≡ false) × (0 < tiles_of meld tile)) }
+    ensures proper { IfSome result (λ meld.
+        (is_meld meld ≡ true) × (is_kong meld ≡ false) × (0 < tiles_of meld tile)) }
 {
     let number = tile.index() as u8;
     if number < down {
@@ -51,11 +52,12 @@ fn run_below(tile: Kind, down: u8) -> Option<Meld>
 }
 
 impl Claim {
-    #[tactic(auto, unfolding(crate::specs::Calls::called))]
     /// The meld for which a tile is called so, where there is one and the tile may be taken for it.
+    #[tactic(auto, unfolding(crate::specs::Calls::called))]
     pub fn meld(self, thrown: &Thrown) -> Option<Meld>
         ensures value { result ≡ spec.called self thrown.now }
-        ensures proper { IfSome result (λ meld. (is_meld meld ≡ true) × (is_kong meld ≡ false) × (0 < tiles_of meld thrown.now.tile)) }
+        ensures proper { IfSome result (λ meld.
+            (is_meld meld ≡ true) × (is_kong meld ≡ false) × (0 < tiles_of meld thrown.now.tile)) }
     {
         let tile = thrown.tile;
         match (self, thrown.by) {

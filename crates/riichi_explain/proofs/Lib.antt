@@ -12,3 +12,4 @@ pub mod ExplainedLines
 pub mod Lists
 pub mod WaitLemmas
 pub mod BestRanked
+pub mod MeldLemmas

@@ -1,7 +1,8 @@
 -- What else is to be said of a win.
-use Rattle.std.specs.Prelude.{ℕ, ◌==◌, List, [], ◌++◌, Bool, true, false, ◌&&◌, not, nat_le, nat_lt, sum, codes, if◌then◌else◌}
+use Rattle.std.specs.Prelude.{ℕ, ◌==◌, List, [], ◌++◌, Bool, true, false, ◌&&◌, ◌||◌, not, nat_le, nat_lt, sum, codes, Option, Some, None, if◌then◌else◌}
+use Rattle.std.specs.List.{list_any}
 use Rattle.riichi_tiles.specs.declared.meld.Meld.{Meld}
-use Rattle.riichi_tiles.specs.Melds.{tiles, are_concealed}
+use Rattle.riichi_tiles.specs.Melds.{tiles, tiles_of, is_open, are_concealed}
 use Rattle.riichi_blocks.specs.Kinds.{white, green, red}
 use Rattle.riichi_hand.specs.declared.win.Wind.TheVariants.{East, South, West, North}
 use Rattle.riichi_hand.specs.declared.win.WinParts.{WinParts}
@@ -19,11 +20,25 @@ is_robbed_twice win = win.flags.chankan && nat_lt 1 (copies_with_indicators win 
 abbrev pub has_set : List Meld → ℕ → Bool
 has_set melds kind = nat_le 3 (tiles melds kind)
 
--- the sets of all dragons are melds, and the hand is open
-abbrev pub are_dragons_called : List Meld → Bool
-are_dragons_called melds = not (are_concealed melds) && (has_set melds white && (has_set melds green && has_set melds red))
+-- a meld is one, and was fed by another: a concealed kong was not
+abbrev pub is_fed_set : Meld → ℕ → Bool
+is_fed_set meld kind = is_open meld && nat_le 3 (tiles_of meld kind)
 
--- the same of the winds
+abbrev pub is_fed_there : Option Meld → ℕ → Bool
+is_fed_there None kind = false
+is_fed_there (Some meld) kind = is_fed_set meld kind
+
+abbrev pub has_fed_set : List Meld → ℕ → Bool
+has_fed_set melds kind = list_any (λ meld. is_fed_set meld kind) melds
+
+abbrev pub has_dragons : List Meld → Bool
+has_dragons melds = has_set melds white && (has_set melds green && has_set melds red)
+
+-- the sets of all dragons are melds, and another fed one of them
+abbrev pub are_dragons_called : List Meld → Bool
+are_dragons_called melds = has_dragons melds && (has_fed_set melds white || (has_fed_set melds green || has_fed_set melds red))
+
+-- the sets of all winds are the four melds of an open hand
 abbrev pub are_winds_called : List Meld → Bool
 are_winds_called melds =
     not (are_concealed melds)

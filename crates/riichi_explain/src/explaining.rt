@@ -29,8 +29,9 @@ pub enum Shown {
     EveryReading,
 }
 
-/// Writes the lines that say why a win is worth what it is: the rules where they are neither profile, a note where riichi has no
-/// indicator, a robbed kong's tile is in the hand too, or somebody may be liable, and then those of a hand that scores, a line for each reading without yaku, or how far a hand that is no win is from each form, and what it waits for.
+/// Writes the lines that say why a win is worth what it is: the rules where they are neither profile; a note where riichi has no
+/// indicator, a robbed kong's tile is in the hand too, or somebody may be liable; and then those of a hand that scores, a line for
+/// each reading without yaku, or how far a hand that is no win is from each form, and what it waits for.
 pub fn push_win_lines(text: &mut ReasonsText, explanation: WinExplanation, win: &WinRecord)
     requires { array_string_len text.old + MOST_WIN_LINES ≤ REASONS_ROOM }
     ensures { text.new.bytes ≡ text.old.bytes ++ spec.win_lines explanation win.now }

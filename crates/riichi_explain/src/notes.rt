@@ -6,7 +6,7 @@ ghost use Rattle.riichi_explain.specs.Notes as spec;
 use crate::room::{REASONS_ROOM, ReasonsText};
 use riichi_blocks::{EAST, GREEN, RED, WHITE};
 use riichi_hand::WinRecord;
-use riichi_tiles::{Kind, Melds};
+use riichi_tiles::{Kind, Meld, Melds};
 
 const NO_INDICATOR: &str = "  note    riichi, and no indicator is said: dora= is missing\n";
 
@@ -82,7 +82,14 @@ fn is_robbed_twice(win: &WinRecord) -> bool
 fn are_dragons_called(melds: &Melds) -> bool
     ensures { result ≡ spec.are_dragons_called melds.now }
 {
-    !melds.concealed() && has_set(melds, WHITE) && has_set(melds, GREEN) && has_set(melds, RED)
+    has_dragons(melds)
+        && (has_fed_set(melds, WHITE) || has_fed_set(melds, GREEN) || has_fed_set(melds, RED))
+}
+
+fn has_dragons(melds: &Melds) -> bool
+    ensures { result ≡ spec.has_dragons melds.now }
+{
+    has_set(melds, WHITE) && has_set(melds, GREEN) && has_set(melds, RED)
 }
 
 fn are_winds_called(melds: &Melds) -> bool
@@ -101,4 +108,26 @@ fn has_set(melds: &Melds, kind: usize) -> bool
     ensures { result ≡ spec.has_set melds.now kind }
 {
     melds.tiles(Kind::at(kind as u8)) >= 3
+}
+
+/// Whether one of the melds is a triplet or a kong of an honour that another fed: nobody feeds a concealed kong.
+#[tactic(auto, using(crate::proofs::MeldLemmas::fed_among_four))]
+fn has_fed_set(melds: &Melds, kind: usize) -> bool
+    requires { kind < 34 }
+    ensures { result ≡ spec.has_fed_set melds.now kind }
+{
+    let _at_most_four = melds.count();
+    let kind = Kind::at(kind as u8);
+    let among_two = is_fed(melds.get(0), kind) | is_fed(melds.get(1), kind);
+    let among_others = is_fed(melds.get(2), kind) | is_fed(melds.get(3), kind);
+    among_two | among_others
+}
+
+fn is_fed(meld: Option<Meld>, kind: Kind) -> bool
+    ensures { result ≡ spec.is_fed_there meld kind }
+{
+    match meld {
+        Some(meld) => meld.is_open() && meld.tiles(kind) >= 3,
+        None => false,
+    }
 }

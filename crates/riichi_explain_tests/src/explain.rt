@@ -536,6 +536,10 @@ fn notes_of_wins(rt: HostRuntime) -> Result<(), Fail> {
             "  note    all three dragons",
         ),
         (
+            "win 3m open=ankan:5555z,ankan:6666z,ankan:7777z,pon:222p on=3m by=ron seat=N round=E",
+            "  reading",
+        ),
+        (
             "win 2m open=pon:111z,ankan:2222z,pon:333z,pon:444z on=2m by=ron seat=N round=E",
             "  note    all four winds",
         ),

@@ -88,7 +88,8 @@ fn push_final(text: &mut AnswerText, name: &Name, of: &FinalPoints)
 #[tactic(auto, unfolding(crate::specs::Finals::final_place_members))]
 fn push_place(text: &mut AnswerText, name: &Name, of: &FinalPoints)
     requires { array_string_len text.old + MOST_PLACE ≤ ANSWER_ROOM }
-    ensures bytes { text.new.bytes ≡ text.old.bytes ++ spec.final_place_members name.now.bytes of.now }
+    ensures bytes { text.new.bytes
+        ≡ text.old.bytes ++ spec.final_place_members name.now.bytes of.now }
     ensures len { array_string_len text.new ≤ array_string_len text.old + MOST_PLACE }
 {
     push_quoted(text, "{\"name\":", name);

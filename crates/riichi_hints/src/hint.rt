@@ -73,7 +73,8 @@ fn push_tried(text: &mut AnswerText, hint: &Hint)
 /// Writes what became of the words, where there is anything to tell.
 fn push_account(text: &mut AnswerText, account: &str)
     requires { array_string_len text.old + length account.now + 20 ≤ ANSWER_ROOM }
-    ensures bytes { text.new.bytes ≡ text.old.bytes ++ told_line (codes "  here") (said_if account.now) }
+    ensures bytes { text.new.bytes
+        ≡ text.old.bytes ++ told_line (codes "  here") (said_if account.now) }
     ensures len { array_string_len text.new ≤ array_string_len text.old + length account.now + 10 }
 {
     if !account.is_empty() {

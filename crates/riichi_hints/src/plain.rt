@@ -16,7 +16,8 @@ pub(crate) fn plain_line(line: &[u8]) -> Line
 
 /// Adds the characters of a line behind those before them.
 fn add_plain(plain: &mut Line, line: &[u8])
-    ensures { is_plain_behind (slice_index plain.old.items (length plain.old.items - 1)) line.now ≡ true
+    ensures { is_plain_behind (slice_index plain.old.items (length plain.old.items - 1)) line.now
+        ≡ true
         → length plain.old.items + length line.now ≤ MOST
         → plain.new.items ≡ plain.old.items ++ line.now }
 {
