@@ -52,6 +52,8 @@ if command -v rustc > /dev/null; then
 else
   skip 'a program in Rust' rustc
 fi
+cc -O1 -g -Wall -Wextra -std=c99 -pedantic -fsanitize=address,undefined -Iinclude tests/calls.c "$archive" -o "$made/calls"
+told 'what each call tells, by values worked by hand' 'all right' "$("$made/calls" 2>&1)"
 cc -O1 -g -Wall -Wextra -std=c99 -pedantic -fsanitize=address,undefined -Iinclude tests/games.c "$archive" -o "$made/games"
 told 'games at random' 'no difference' "$("$made/games" 7 200 2>&1 | sed 's/.* outcomes, //')"
 cc -O1 -g -Wall -Wextra -std=c99 -pedantic -fsanitize=address,undefined -Iinclude tests/game_lines.c "$archive" -o "$made/game_lines"

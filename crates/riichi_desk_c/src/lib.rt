@@ -75,6 +75,3 @@ pub extern "C" fn riichi_version(room: &mut [u8]) -> usize
 {
     place(b"riichi_desk 0.1.0", room)
 }
-
-#[cfg(test)]
-mod tests;
