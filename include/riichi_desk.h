@@ -172,10 +172,10 @@ size_t riichi_answer_rows(uint32_t rules, const uint8_t *bytes, size_t bytes_len
  * first on; the call returns how many, and leaves what lies behind them. A row that is no hand (a count above four, a meld that is
  * none, another number of tiles, a fifth tile of a kind) says so by a value of its own, and the others are answered all the same.
  *
- * A call of riichi_shantens or riichi_shapes for 128 hands or more, or of riichi_discards for 16 or more, keeps what it finds of a
- * suit for the next hands: one call for a thousand hands is several times faster than a thousand calls. For that it has some 440 kB
+ * A call of riichi_shantens or riichi_shapes for 128 hands or more, of riichi_discards for 16 or more, or of riichi_deeper or
+ * riichi_calls for 4 or more, keeps what it finds of a suit for the next hands: one call for a thousand hands is several times faster than a thousand calls. For that it has some 440 kB
  * on its stack, which is more than a thread of musl has unless it is told otherwise; calls for fewer hands have 10 kB.
- * riichi_desk_portable.c answers by pieces of 480 hands, or 240 with discards, and keeps nothing for the next piece.
+ * riichi_desk_portable.c answers by pieces of 480 hands, or 240 with discards or calls, and keeps nothing for the next piece.
  */
 
 /* What a row that is no hand has for its shanten, and for its waits. */
@@ -222,6 +222,39 @@ size_t riichi_discards(const uint8_t (*counts)[34], size_t counts_len, const uin
 /* The kinds that hands of thirteen tiles wait for, a bit for each; RIICHI_NO_WAITS where the row is no such hand. */
 size_t riichi_waits_of(const uint8_t (*counts)[34], size_t counts_len, const uint8_t (*melds)[4], size_t melds_len,
     uint64_t *kinds, size_t kinds_len);
+
+/* What stands beyond the next step of hands of thirteen tiles that aren't ready.
+ *
+ *   shanten   As above; RIICHI_NO_HAND also where the row has fourteen tiles. Where it is 0 or less, `second` and `good` are 0.
+ *   second    The sum over the accepted kinds of their live copies times the most live copies that a best discard then leaves: of
+ *             all ordered pairs of unseen tiles those of which each brings the hand nearer.
+ *   good      How many live copies the accepted kinds have after which a best discard leaves at least five.
+ *
+ * After a discard of fourteen tiles the row is that of the other thirteen, and the discarded tile is one of those seen.
+ */
+size_t riichi_deeper(const uint8_t (*counts)[34], size_t counts_len, const uint8_t (*melds)[4], size_t melds_len,
+    const uint8_t (*seen)[34], size_t seen_len, int8_t *shanten, size_t shanten_len, uint16_t *second, size_t second_len,
+    uint8_t *good, size_t good_len);
+
+/* Which calls of a tile that another player throws bring hands of thirteen tiles nearer.
+ *
+ *   thrown    For each hand the kind, and who throws it: RIICHI_FROM_LEFT and so on. It is not yet one of those seen.
+ *   called    Four bytes for each hand: the meld for a run of which the tile is the highest, for one of which it is the middle, for one
+ *             of which it is the lowest, and for a triplet; 0 where some discard after the call leaves the hand no nearer, where the
+ *             hand lacks the other tiles, where it may not be called so, or where the row says no hand or no tile that is left.
+ *   kinds     For each of the four the kinds whose discard is then best, a bit for each.
+ *   live      For each of these kinds how many copies of what is then accepted are live; 0 for every other.
+ *
+ * A discard that the rule against swap calling forbids is never among these kinds. A kong brings no hand nearer.
+ */
+size_t riichi_calls(const uint8_t (*counts)[34], size_t counts_len, const uint8_t (*melds)[4], size_t melds_len,
+    const uint8_t (*seen)[34], size_t seen_len, const uint8_t (*thrown)[2], size_t thrown_len, uint8_t (*called)[4], size_t called_len,
+    uint64_t (*kinds)[4], size_t kinds_len, uint8_t (*live)[4][34], size_t live_len);
+
+/* Who throws a tile, seen from the hand: the player before, from whom alone a run may be called; across; the player after. */
+#define RIICHI_FROM_LEFT 0
+#define RIICHI_FROM_ACROSS 1
+#define RIICHI_FROM_RIGHT 2
 
 /* ---- Many wins as arrays
  *

@@ -173,6 +173,55 @@ static void try_shapes(void) {
     CHECK(accepts[33] == WAITS && live[0][33] == 8 && accepts[0] == 0);
 }
 
+/* 234m45678p34s558s, 123m4467p23557s1z and 1357m245p2346s77z. */
+static const uint8_t FAR[3][34] = {
+    {0, 1, 1, 1, [12] = 1, 1, 1, 1, 1, [20] = 1, 1, 2, 0, 0, 1},
+    {1, 1, 1, [12] = 2, 0, 1, 1, [19] = 1, 1, 0, 2, 0, 1, [27] = 1},
+    {1, 0, 1, 0, 1, 0, 1, [10] = 1, 0, 1, 1, [19] = 1, 1, 1, 0, 1, [33] = 2},
+};
+
+static void try_outlooks(void) {
+    const uint16_t wanted_second[3] = {165, 384, 160};
+    const uint8_t wanted_good[3] = {20, 24, 16};
+    int8_t shanten[5] = {FILL, FILL, FILL, FILL, FILL};
+    uint16_t second[5];
+    uint8_t good[5], rows[5][34] = {{0}};
+    memcpy(rows, FAR, sizeof FAR);
+    memcpy(rows[3], READY, sizeof READY);
+    CHECK(riichi_deeper((const uint8_t (*)[34])rows, 5, NULL, 0, NULL, 0, shanten, 5, second, 5, good, 5) == 5);
+    CHECK(shanten[0] == 1 && memcmp(second, wanted_second, sizeof wanted_second) == 0 && memcmp(good, wanted_good, 3) == 0);
+    CHECK(shanten[3] == 0 && second[3] == 0 && good[3] == 0);
+    CHECK(shanten[4] == RIICHI_NO_HAND && second[4] == 0 && good[4] == 0);
+    CHECK(riichi_deeper(FAR, 3, NULL, 0, NULL, 0, shanten, 1, second, 5, good, 5) == 1);
+}
+
+/* A tile thrown by the player before brings the first of these hands nearer for this claim alone, or for none, and these discards are best. */
+static void calls_one(uint8_t tile, uint8_t by, int claim, uint8_t meld, uint64_t best) {
+    const uint8_t thrown[1][2] = {{tile, by}};
+    uint8_t called[1][4], live[1][4][34], wanted[4] = {0};
+    uint64_t kinds[1][4];
+    CHECK(riichi_calls(FAR, 1, NULL, 0, NULL, 0, thrown, 1, called, 1, kinds, 1, live, 1) == 1);
+    if (meld != 0) wanted[claim] = meld;
+    CHECK(memcmp(called[0], wanted, 4) == 0);
+    CHECK(kinds[0][claim] == best);
+}
+
+static void try_calls(void) {
+    const uint64_t five = UINT64_C(1) << 22, eight = UINT64_C(1) << 25;
+    calls_one(11, RIICHI_FROM_LEFT, 2, RIICHI_CHI(11), five | eight);
+    calls_one(17, RIICHI_FROM_LEFT, 0, RIICHI_CHI(15), five | eight);
+    calls_one(19, RIICHI_FROM_LEFT, 2, RIICHI_CHI(19), eight);
+    calls_one(11, RIICHI_FROM_ACROSS, 2, 0, 0);
+    calls_one(11, 3, 2, 0, 0);
+    calls_one(34, RIICHI_FROM_LEFT, 2, 0, 0);
+    calls_one(22, RIICHI_FROM_RIGHT, 3, 0, 0);
+    const uint8_t thrown[1][2] = {{11, RIICHI_FROM_LEFT}};
+    uint8_t called[1][4], live[1][4][34];
+    uint64_t kinds[1][4];
+    CHECK(riichi_calls(FAR, 1, NULL, 0, NULL, 0, thrown, 1, called, 1, kinds, 1, live, 1) == 1);
+    CHECK(live[0][2][25] == 6 && live[0][2][22] == 3 && live[0][2][24] == 0);
+}
+
 /* `win 123406789m22s34p on=2p by=ron seat=S round=E`, which has pinfu and pure straight. */
 static const struct riichi_win STRAIGHT = {
     .concealed = {1, 1, 1, 1, 1, 1, 1, 1, 1, [11] = 1, 1, [19] = 2}, .winning = 10, .seat = RIICHI_SOUTH, .reds = {1}};
@@ -338,6 +387,8 @@ int main(void) {
     try_text_of_games();
     try_rules();
     try_shapes();
+    try_outlooks();
+    try_calls();
     try_wins();
     try_refused_wins();
     try_tables();

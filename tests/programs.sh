@@ -49,6 +49,8 @@ if command -v rustc > /dev/null; then
   told 'a program in Rust, with explanations' "$(sha256sum < "$made/explained")" "$("$made/in_rust" explain < "$made/lines" | sha256sum)"
   rustc -O --edition 2021 -L "$(dirname "$archive")" -l static=riichi_desk_c bench/src/both.rs -o "$made/both"
   told 'a thousand random games by two ledgers' 'no difference' "$("$made/both" 1000 | grep -o 'no difference$')"
+  rustc -O --edition 2021 -L "$(dirname "$archive")" -l static=riichi_desk_c bench/src/further.rs -o "$made/further"
+  told 'second, good and calls of a thousand random hands, by their definitions' 'no difference' "$("$made/further" 1000 | grep -o 'no difference$')"
 else
   skip 'a program in Rust' rustc
 fi

@@ -83,6 +83,42 @@ size_t riichi_discards(const uint8_t (*counts)[34], size_t counts_len, const uin
     return ask_rows(discards_of, MOST_DISCARDS, given, columns, 4);
 }
 
+static u64 deeper_of(size_t hands, size_t melds, size_t seen) {
+    assert(hands <= MOST_HANDS);
+    return Z_deskZ_riichi_deeper(
+        &module, COUNTS, hands, MELDS, melds, SEEN, seen, COLUMN_0, hands, COLUMN_1, hands, COLUMN_2, hands);
+}
+
+size_t riichi_deeper(const uint8_t (*counts)[34], size_t counts_len, const uint8_t (*melds)[4], size_t melds_len,
+    const uint8_t (*seen)[34], size_t seen_len, int8_t *shanten, size_t shanten_len, uint16_t *second, size_t second_len,
+    uint8_t *good, size_t good_len) {
+    const struct given given[3] = {{counts, counts_len, 34}, {melds, melds_len, 4}, {seen, seen_len, 34}};
+    const struct column columns[] = {{shanten, shanten_len, 1}, {second, second_len, 2}, {good, good_len, 1}};
+    return ask_rows(deeper_of, MOST_HANDS, given, columns, 3);
+}
+
+/* (the thrown tiles of a piece lie in a column that this call doesn't fill) */
+static u64 calls_of(size_t hands, size_t melds, size_t seen) {
+    assert(hands <= MOST_DISCARDS);
+    return Z_deskZ_riichi_calls(&module, COUNTS, hands, MELDS, melds, SEEN, seen, COLUMN_3, hands, COLUMN_0, hands, COLUMN_1, hands,
+        COLUMN_2, hands);
+}
+
+size_t riichi_calls(const uint8_t (*counts)[34], size_t counts_len, const uint8_t (*melds)[4], size_t melds_len,
+    const uint8_t (*seen)[34], size_t seen_len, const uint8_t (*thrown)[2], size_t thrown_len, uint8_t (*called)[4], size_t called_len,
+    uint64_t (*kinds)[4], size_t kinds_len, uint8_t (*live)[4][34], size_t live_len) {
+    size_t rows = lesser(lesser(counts_len, thrown_len), lesser(called_len, lesser(kinds_len, live_len)));
+    for (size_t start = 0, hands; start < rows; start += hands) {
+        hands = lesser(rows - start, MOST_DISCARDS);
+        const struct given given[3] = {{counts + start, hands, 34}, {melds_len > start ? melds + start : melds, melds_len > start ? melds_len - start : 0, 4},
+            {seen_len > start ? seen + start : seen, seen_len > start ? seen_len - start : 0, 34}};
+        const struct column columns[] = {{called + start, hands, 4}, {kinds + start, hands, 32}, {live + start, hands, 136}};
+        memcpy(memory() + COLUMN_3, thrown + start, 2 * hands);
+        ask_rows(calls_of, MOST_DISCARDS, given, columns, 3);
+    }
+    return rows;
+}
+
 static u64 waits_of(size_t hands, size_t melds, size_t seen) {
     (void)seen;
     return Z_deskZ_riichi_waits_of(&module, COUNTS, hands, MELDS, melds, COLUMN_0, hands);

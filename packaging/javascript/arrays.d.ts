@@ -45,6 +45,32 @@ export interface Discards {
   live: Uint8Array;
 }
 export function discards(counts: Numbers, beside?: Beside): Discards;
+/** What stands beyond the next step of hands of thirteen tiles, a row for each hand. */
+export interface Outlooks {
+  /** NO_HAND of a row that is no hand of thirteen tiles. Where it is 0 or less, the other two are 0. */
+  shanten: Int8Array;
+  /** The sum over the accepted kinds of their live copies times the most live copies that a best discard then leaves. */
+  second: Uint16Array;
+  /** The live copies of the accepted kinds after which a best discard leaves at least five. */
+  good: Uint8Array;
+}
+export function deeper(counts: Numbers, beside?: Beside): Outlooks;
+/** Which calls of a thrown tile bring hands of thirteen tiles nearer, four a hand: for a run of which the tile is the highest, the
+ * middle or the lowest, and for a triplet. */
+export interface Calls {
+  /** The byte of each meld, 4 a hand; 0 where there is no such call. */
+  melds: Uint8Array;
+  /** The kinds whose discard is best after it, a bit for each; 4 a hand. */
+  kinds: BigUint64Array;
+  /** For each call at each of these kinds how many copies of what is then accepted are live, 136 a hand. */
+  live: Uint8Array;
+}
+/** Who throws a tile, seen from the hand: the player before, from whom alone a run may be called; across; the player after. */
+export const LEFT: 0;
+export const ACROSS: 1;
+export const RIGHT: 2;
+/** `thrown` has two numbers for each hand: the kind, and who throws it. */
+export function callsOf(counts: Numbers, thrown: Numbers, beside?: Beside): Calls;
 /** A win: a hand, and what a game would know of it. Winds are 0 East, who is the dealer, to 3 North. */
 export interface WinHand extends Hand {
   /** 0 by ron, 1 by self-draw. */

@@ -19,6 +19,11 @@ const SHANTEN = { Column: Int8Array, width: 1 };
 const SET = { Column: BigUint64Array, width: 1 };
 const SETS = { Column: BigUint64Array, width: KINDS };
 const COPIES = { Column: Uint8Array, width: KINDS };
+const STEPS = { Column: Uint16Array, width: 1 };
+const LIVE = { Column: Uint8Array, width: 1 };
+const CALLED = { Column: Uint8Array, width: MELDS };
+const CALL_SETS = { Column: BigUint64Array, width: MELDS };
+const CALL_COPIES = { Column: Uint8Array, width: MELDS * KINDS };
 const SCORES = { Column: Uint8Array, width: SCORE };
 
 export const chi = (kind) => 1 + kind;
@@ -92,6 +97,25 @@ export function discards(counts, { melds, seen } = {}) {
   const rows = handRows(counts, [melds, MELDS], [seen, KINDS]);
   const [least, kinds, accepts, live] = columnsOf(calls.riichi_discards, [], rows, [SHANTEN, SET, SETS, COPIES]);
   return { shanten: least, kinds, accepts, live };
+}
+
+// Who throws a tile, seen from the hand: the player before, from whom alone a run may be called; across; the player after.
+export const LEFT = 0;
+export const ACROSS = 1;
+export const RIGHT = 2;
+
+export function deeper(counts, { melds, seen } = {}) {
+  const rows = handRows(counts, [melds, MELDS], [seen, KINDS]);
+  const [least, second, good] = columnsOf(calls.riichi_deeper, [], rows, [SHANTEN, STEPS, LIVE]);
+  return { shanten: least, second, good };
+}
+
+// Of each hand and its thrown tile (two numbers: the kind, and who throws it) four calls: for a run of which the tile is the highest, the
+// middle or the lowest, and for a triplet.
+export function callsOf(counts, thrown, { melds, seen } = {}) {
+  const rows = handRows(counts, [melds, MELDS], [seen, KINDS], [thrown, 2]);
+  const [called, kinds, live] = columnsOf(calls.riichi_calls, [], rows, [CALLED, CALL_SETS, CALL_COPIES]);
+  return { melds: called, kinds, live };
 }
 
 // The row of a win, as `wins` takes many of them, one behind the other.

@@ -3,7 +3,8 @@
 import { calls, lend, LINE, memory, MOST_ANSWER, MOST_TEXT, ROOM, tested, view } from "./module.js";
 
 export { Game, HandRefused, OutcomeRefused, RulesRefused, table } from "./game.js";
-export { ankan, chi, discards, kan, NO_HAND, NO_WAITS, NO_WIN, NO_YAKU, pon, shanten, shapes, waits, winRow, wins, WON } from "./arrays.js";
+export { ACROSS, ankan, callsOf, chi, deeper, discards, kan, LEFT, NO_HAND, NO_WAITS, NO_WIN, NO_YAKU, pon, RIGHT } from "./arrays.js";
+export { shanten, shapes, waits, winRow, wins, WON } from "./arrays.js";
 
 const MOST_LINE = 4200; // a line of more than 4096 bytes is refused whatever follows
 const TAKEN = ROOM + MOST_ANSWER;

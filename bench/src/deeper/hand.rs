@@ -2,7 +2,7 @@
 use super::distance::Known;
 use crate::tiles::{Counts, Meld, Melds};
 
-#[derive(Clone, Copy)]
+#[derive(Clone, Copy, Debug)]
 pub struct Hand {
     pub tiles: Counts,
     pub melds: Melds,

@@ -6,5 +6,8 @@ mod hand;
 mod random;
 mod text;
 
-pub use random::write_lines;
+pub use calls::calls;
+pub use distance::Known;
+pub use hand::Hand;
+pub use random::{random_hand, random_tile, write_lines};
 pub use text::answer;

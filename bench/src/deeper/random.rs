@@ -17,7 +17,7 @@ fn draw(dice: &mut Dice, hand: &Hand) -> usize {
 }
 
 /// Up to three melds, seen tiles, and as many drawn tiles as make up the size; then some draws that bring it nearer.
-fn hand(dice: &mut Dice, known: &mut Known, size: usize) -> Hand {
+pub fn random_hand(dice: &mut Dice, known: &mut Known, size: usize) -> Hand {
     let mut hand = Hand { tiles: [0; 34], melds: Melds::none(), seen: [0; 34] };
     for _ in 0..dice.below(8).saturating_sub(4) {
         let kind = dice.below(34) as u8;
@@ -66,6 +66,17 @@ fn approach(dice: &mut Dice, known: &mut Known, hand: &mut Hand) {
     }
 }
 
+/// A kind of which a copy is left: most are kinds that the hand accepts.
+pub fn random_tile(dice: &mut Dice, known: &mut Known, hand: &Hand) -> usize {
+    let accepted = hand.accepted(known);
+    let any = dice.below(4) == 0 || accepted.is_empty();
+    if any {
+        draw(dice, hand)
+    } else {
+        accepted[dice.below(accepted.len())].0
+    }
+}
+
 fn write_keys(out: &mut Vec<u8>, hand: &Hand) {
     for (place, &meld) in hand.melds.iter().enumerate() {
         out.extend_from_slice(if place == 0 { b" open=" } else { b"," });
@@ -83,13 +94,11 @@ pub fn write_lines(count: usize, seed: u64) -> std::io::Result<()> {
     for number in 0..count {
         let is_call = number % 2 == 1;
         let size = if is_call || dice.below(4) > 0 { 13 } else { 14 };
-        let hand = hand(&mut dice, &mut known, size);
+        let hand = random_hand(&mut dice, &mut known, size);
         out.extend_from_slice(if is_call { b"calls " } else { b"deeper " });
         write_counts(&mut out, &hand.tiles);
         if is_call {
-            let accepted = hand.accepted(&mut known);
-            let any = dice.below(4) == 0 || accepted.is_empty();
-            let tile = if any { draw(&mut dice, &hand) } else { accepted[dice.below(accepted.len())].0 };
+            let tile = random_tile(&mut dice, &mut known, &hand);
             out.extend_from_slice(b" tile=");
             write_kind(&mut out, tile);
             out.extend_from_slice([&b" from=left"[..], b" from=left", b" from=across", b" from=right"][dice.below(4)]);

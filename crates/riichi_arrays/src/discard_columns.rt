@@ -58,7 +58,7 @@ impl DiscardsRow {
 }
 
 /// The discards of a list by their kinds. The first of a kind counts, so they are put from the last on.
-fn discards_row(shanten: i8, discards: &DiscardList) -> DiscardsRow
+pub(crate) fn discards_row(shanten: i8, discards: &DiscardList) -> DiscardsRow
     ensures { result ≡ discards_row shanten discards.now }
 {
     let mut told = DiscardsRow::none(shanten);

@@ -1,5 +1,6 @@
 //! Many hands, and the hand of a row.
-ghost use Rattle.std.specs.Prelude.{◌≡◌, slice_index_or};
+ghost use Rattle.std.specs.Prelude.{◌≡◌, IfSome, slice_index_or, true};
+ghost use Rattle.riichi_hand.specs.Hand.{is_thirteen, size};
 ghost use Rattle.riichi_arrays.specs.Hands as spec;
 ghost use Rattle.riichi_arrays.specs.Hands.{no_melds, no_tiles};
 
@@ -17,6 +18,7 @@ pub struct Hands<'a> {
 
 impl Hands<'_> {
     ghost use Rattle.riichi_arrays.specs.Columns.{hand_of_row, shape_of_row};
+    ghost use Rattle.riichi_arrays.specs.Further.{thirteen_of_row};
 
     /// The hand of thirteen or fourteen tiles that stands in a row.
     pub(crate) fn shape_at(&self, row: usize) -> Option<ShapeRecord>
@@ -28,7 +30,20 @@ impl Hands<'_> {
         ShapeRecord::new(tiles, melds, seen).ok()
     }
 
-    /// The hand of thirteen tiles that stands in a row.
+    /// The same, where it has thirteen tiles.
+    pub(crate) fn thirteen_at(&self, row: usize) -> Option<ShapeRecord>
+        ensures value { result ≡ thirteen_of_row self.now row }
+        ensures thirteen { IfSome result (λ asked. is_thirteen asked.tiles asked.melds ≡ true) }
+    {
+        let asked = self.shape_at(row)?;
+        if size(&asked) == 13 {
+            Some(asked)
+        } else {
+            None
+        }
+    }
+
+    /// The hand of thirteen tiles that stands in a row, whatever is seen elsewhere.
     pub(crate) fn hand_at(&self, row: usize) -> Option<HandRecord>
         ensures { result ≡ hand_of_row self.now row }
     {
@@ -36,6 +51,13 @@ impl Hands<'_> {
         let melds = melds_at(self.melds, row)?;
         HandRecord::new(tiles, melds).ok()
     }
+}
+
+/// How many tiles a hand has, each meld counted as three.
+fn size(asked: &ShapeRecord) -> usize
+    ensures { result ≡ size asked.now.tiles asked.now.melds }
+{
+    asked.tiles().total() as usize + 3 * asked.melds().count()
 }
 
 /// The counts of a row, none where one is above four.

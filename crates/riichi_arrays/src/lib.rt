@@ -10,15 +10,19 @@
 //! memory. So of the counts of 123456789m1134p `shantens` makes 0, and `waits` and `shapes` the bits of 2p and 5p.
 #![tactic(auto)]
 
+mod call_columns;
 mod discard_columns;
 mod hands;
 mod kept_rows;
+mod outlook_columns;
 mod shanten_column;
 mod shape_columns;
 mod waits_column;
 
+pub use call_columns::calls;
 pub use discard_columns::discards;
 pub use hands::{Hands, counts_in, melds_in};
+pub use outlook_columns::outlooks;
 pub use shanten_column::{NO_HAND, shantens};
 pub use shape_columns::shapes;
 pub use waits_column::{NO_WAITS, waits};

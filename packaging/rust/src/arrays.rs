@@ -57,6 +57,38 @@ pub struct Discards {
     pub live: Vec<Counts>,
 }
 
+/// What stands beyond the next step of hands of thirteen tiles, a row for each hand.
+#[derive(Clone, Debug, PartialEq, Eq)]
+pub struct Outlooks {
+    /// Where it is 0 or less, the other two are 0.
+    pub shanten: Vec<i8>,
+    /// The sum over the accepted kinds of their live copies times the most live copies that a best discard then leaves.
+    pub second: Vec<u16>,
+    /// The live copies of the accepted kinds after which a best discard leaves at least five.
+    pub good: Vec<u8>,
+}
+
+/// Which calls of a thrown tile bring hands of thirteen tiles nearer, four a hand: for a run of which the tile is the highest, the
+/// middle or the lowest, and for a triplet.
+#[derive(Clone, Debug, PartialEq, Eq)]
+pub struct Calls {
+    /// The byte of each meld; 0 where there is no such call.
+    pub melds: Vec<[u8; 4]>,
+    /// The kinds whose discard is best after it.
+    pub kinds: Vec<[u64; 4]>,
+    /// For each of these kinds how many copies of what is then accepted are live.
+    pub live: Vec<[Counts; 4]>,
+}
+
+/// A kind that is thrown, and by whom: [`LEFT`] and so on.
+pub type Thrown = [u8; 2];
+/// The player before, from whom alone a run may be called.
+pub const LEFT: u8 = 0;
+/// The player across.
+pub const ACROSS: u8 = 1;
+/// The player after.
+pub const RIGHT: u8 = 2;
+
 /// A win. What isn't said is 0, as in [`Win::default`]; a flag is set where it isn't 0.
 #[repr(C)]
 #[derive(Clone, Copy, Debug, PartialEq, Eq)]
@@ -217,6 +249,77 @@ pub fn discards(counts: &[Counts], melds: &[Melds], seen: &[Counts]) -> Discards
         );
     }
     Discards { shanten, kinds, accepts, live }
+}
+
+/// Second and good of each hand of thirteen tiles that isn't ready. After a discard of fourteen tiles the row is that of the other
+/// thirteen, and the discarded tile is one of those seen.
+///
+/// ```
+/// let mut hand = [0; 34]; // 234m45678p34s558s
+/// hand[1..4].fill(1);
+/// hand[12..17].fill(1);
+/// hand[20..26].copy_from_slice(&[1, 1, 2, 0, 0, 1]);
+/// let told = riichi_desk::arrays::deeper(&[hand], &[], &[]);
+/// assert_eq!((told.shanten[0], told.second[0], told.good[0]), (1, 165, 20));
+/// ```
+pub fn deeper(counts: &[Counts], melds: &[Melds], seen: &[Counts]) -> Outlooks {
+    let hands = counts.len();
+    let (mut shanten, mut second, mut good) = (vec![NO_HAND; hands], vec![0; hands], vec![0; hands]);
+    // SAFETY: as in `shanten`.
+    unsafe {
+        calls::riichi_deeper(
+            counts.as_ptr(),
+            hands,
+            melds.as_ptr(),
+            melds.len(),
+            seen.as_ptr(),
+            seen.len(),
+            shanten.as_mut_ptr(),
+            hands,
+            second.as_mut_ptr(),
+            hands,
+            good.as_mut_ptr(),
+            hands,
+        );
+    }
+    Outlooks { shanten, second, good }
+}
+
+/// Which calls of a thrown tile bring each hand of thirteen tiles nearer. The tile is not yet one of those seen.
+///
+/// ```
+/// use riichi_desk::arrays::{calls, chi, LEFT};
+/// let mut hand = [0; 34]; // 234m45678p34s558s
+/// hand[1..4].fill(1);
+/// hand[12..17].fill(1);
+/// hand[20..26].copy_from_slice(&[1, 1, 2, 0, 0, 1]);
+/// let told = calls(&[hand], &[[11, LEFT]], &[], &[]);
+/// assert_eq!(told.melds[0], [0, 0, chi(11), 0]);
+/// assert_eq!((told.live[0][2][25], told.live[0][2][22]), (6, 3));
+/// ```
+pub fn calls(counts: &[Counts], thrown: &[Thrown], melds: &[Melds], seen: &[Counts]) -> Calls {
+    let hands = counts.len();
+    let (mut called, mut kinds, mut live) = (vec![[0; 4]; hands], vec![[0; 4]; hands], vec![[[0; 34]; 4]; hands]);
+    // SAFETY: as in `shanten`.
+    unsafe {
+        calls::riichi_calls(
+            counts.as_ptr(),
+            hands,
+            melds.as_ptr(),
+            melds.len(),
+            seen.as_ptr(),
+            seen.len(),
+            thrown.as_ptr(),
+            thrown.len(),
+            called.as_mut_ptr(),
+            hands,
+            kinds.as_mut_ptr(),
+            hands,
+            live.as_mut_ptr(),
+            hands,
+        );
+    }
+    Calls { melds: called, kinds, live }
 }
 
 /// The kinds that each hand of thirteen tiles waits for, [`NO_WAITS`] of a row that is none.

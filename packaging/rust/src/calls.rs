@@ -50,6 +50,36 @@ extern "C" {
         live: *mut [u8; 34],
         live_len: usize,
     ) -> usize;
+    pub fn riichi_deeper(
+        counts: *const [u8; 34],
+        counts_len: usize,
+        melds: *const [u8; 4],
+        melds_len: usize,
+        seen: *const [u8; 34],
+        seen_len: usize,
+        shanten: *mut i8,
+        shanten_len: usize,
+        second: *mut u16,
+        second_len: usize,
+        good: *mut u8,
+        good_len: usize,
+    ) -> usize;
+    pub fn riichi_calls(
+        counts: *const [u8; 34],
+        counts_len: usize,
+        melds: *const [u8; 4],
+        melds_len: usize,
+        seen: *const [u8; 34],
+        seen_len: usize,
+        thrown: *const [u8; 2],
+        thrown_len: usize,
+        called: *mut [u8; 4],
+        called_len: usize,
+        kinds: *mut [u64; 4],
+        kinds_len: usize,
+        live: *mut [[u8; 34]; 4],
+        live_len: usize,
+    ) -> usize;
     pub fn riichi_discards(
         counts: *const [u8; 34],
         counts_len: usize,

@@ -11,7 +11,8 @@ from __future__ import annotations
 import ctypes
 
 from . import tiles
-from .arrays import NO_HAND, NO_WAITS, Discards, Shapes, ankan, chi, discards, kan, pon, shanten, shapes
+from .arrays import ACROSS, LEFT, NO_HAND, NO_WAITS, RIGHT, Calls, Discards, Outlooks, Shapes
+from .arrays import ankan, calls, chi, deeper, discards, kan, pon, shanten, shapes
 from .game_values import Abort, Chombo, Draw, End, Fault, Final, HandRefused, HanFu, Liable, LimitHand, Move, Need, Needs, Outcome
 from .game_values import OutcomeRefused, Paid, Penalty, Ron, RulesRefused, Stands, State, TableRules, Tsumo, Value, Yakuman
 from .games import game
@@ -30,15 +31,19 @@ from .words import By, Flag, Job, Key, Limit, Riichi, Wind
 
 # (each name as it stands: type checkers read this list as a text)
 __all__ = [
+    "ACROSS",
+    "LEFT",
     "NO_HAND",
     "NO_WAITS",
     "NO_WIN",
     "NO_YAKU",
+    "RIGHT",
     "WON",
     "Abort",
     "Accepted",
     "Answer",
     "By",
+    "Calls",
     "Chombo",
     "Discards",
     "Draw",
@@ -63,6 +68,7 @@ __all__ = [
     "NoYaku",
     "Outcome",
     "OutcomeRefused",
+    "Outlooks",
     "Paid",
     "Penalty",
     "Profile",
@@ -89,7 +95,9 @@ __all__ = [
     "ankan",
     "answer",
     "answers",
+    "calls",
     "chi",
+    "deeper",
     "discards",
     "explain",
     "game",

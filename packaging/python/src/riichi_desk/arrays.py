@@ -1,4 +1,4 @@
-"""Many hands a call, as arrays, without text: shanten, accepted kinds, discards and waits.
+"""Many hands a call, as arrays, without text: shanten, accepted kinds, discards, waits, further steps and calls.
 
 A hand is 34 counts, those of the kinds 1m to 9m, 1p to 9p, 1s to 9s, East, South, West, North, white, green, red; so the kind of 2p
 is 10, and bit 10 of a set of kinds says that 2p is in it. Hands lie one behind the other in any buffer of integers: bytes, a
@@ -47,6 +47,33 @@ class Discards(NamedTuple):
     """uint64, 34 a hand: at each of these kinds those that the rest then accepts, a bit for each; 0 at every other."""
     live: memoryview
     """uint8, 34 a hand: how many tiles of those are left in all; 0 at every other."""
+
+
+class Outlooks(NamedTuple):
+    """What stands beyond the next step of hands of thirteen tiles, a row for each hand."""
+
+    shanten: memoryview
+    """int8: NO_HAND of a row that is no hand of thirteen tiles. Where it is 0 or less, the other two are 0."""
+    second: memoryview
+    """uint16: the sum over the accepted kinds of their live copies times the most live copies that a best discard then leaves."""
+    good: memoryview
+    """uint8: the live copies of the accepted kinds after which a best discard leaves at least five."""
+
+
+class Calls(NamedTuple):
+    """Which calls of a thrown tile bring hands of thirteen tiles nearer, four a hand: for a run of which the tile is the highest, the
+    middle or the lowest, and for a triplet."""
+
+    melds: memoryview
+    """uint8, 4 a hand: the byte of each meld; 0 where there is no such call."""
+    kinds: memoryview
+    """uint64, 4 a hand: the kinds whose discard is best after it, a bit for each."""
+    live: memoryview
+    """uint8, 136 a hand: for each call at each of these kinds how many copies of what is then accepted are live; 0 at every other."""
+
+
+LEFT, ACROSS, RIGHT = range(3)
+"""Who throws a tile, seen from the hand: the player before, from whom alone a run may be called; across; the player after."""
 
 
 def chi(kind: int) -> int:
@@ -130,6 +157,50 @@ def discards(counts: Buffer, melds: Buffer | None = None, seen: Buffer | None = 
         *[distance, hands, best, hands, after, hands, copies, hands],
     )
     return Discards(shanten, kinds, accepts, live)
+
+
+def deeper(counts: Buffer, melds: Buffer | None = None, seen: Buffer | None = None) -> Outlooks:
+    """Second and good of each hand of thirteen tiles that isn't ready. After a discard of fourteen tiles the row is that of the other
+    thirteen, and the discarded tile is one of those seen.
+
+    >>> hand = [0, 1, 1, 1] + [0] * 8 + [1] * 5 + [0] * 3 + [1, 1, 2, 0, 0, 1] + [0] * 8  # 234m45678p34s558s
+    >>> told = deeper(bytes(hand))
+    >>> told.shanten[0], told.second[0], told.good[0]
+    (1, 165, 20)
+    """
+    rows, hands = lend(counts, KINDS)
+    melded, beside = lend(melds, 4, hands)
+    elsewhere, known = lend(seen, KINDS, hands)
+    distance, shanten = _column("b", 1, hands)
+    steps, second = _column("H", 2, hands)
+    copies, good = _column("B", 1, hands)
+    CALLS.riichi_deeper(rows, hands, melded, beside, elsewhere, known, distance, hands, steps, hands, copies, hands)
+    return Outlooks(shanten, second, good)
+
+
+def calls(counts: Buffer, thrown: Buffer, melds: Buffer | None = None, seen: Buffer | None = None) -> Calls:
+    """Which calls of a thrown tile bring each hand of thirteen tiles nearer. `thrown` has two bytes for each hand: the kind, and LEFT,
+    ACROSS or RIGHT; it is not yet one of those seen.
+
+    >>> hand = [0, 1, 1, 1] + [0] * 8 + [1] * 5 + [0] * 3 + [1, 1, 2, 0, 0, 1] + [0] * 8  # 234m45678p34s558s
+    >>> told = calls(bytes(hand), bytes([11, LEFT]))
+    >>> told.melds.tolist() == [[0, 0, chi(11), 0]]
+    True
+    >>> told.kinds[0, 2] == 1 << 22 | 1 << 25, told.live[0, 2 * KINDS + 25], told.live[0, 2 * KINDS + 22]
+    (True, 6, 3)
+    """
+    rows, hands = lend(counts, KINDS)
+    tiles, lent = lend(thrown, 2, hands)
+    melded, beside = lend(melds, 4, hands)
+    elsewhere, known = lend(seen, KINDS, hands)
+    told, called = _column("B", 1, hands, 4)
+    best, kinds = _column("Q", 8, hands, 4)
+    copies, live = _column("B", 1, hands, 4 * KINDS)
+    CALLS.riichi_calls(
+        *[rows, hands, melded, beside, elsewhere, known, tiles, lent],
+        *[told, hands, best, hands, copies, hands],
+    )
+    return Calls(called, kinds, live)
 
 
 def waits(counts: Buffer, melds: Buffer | None = None) -> memoryview:
