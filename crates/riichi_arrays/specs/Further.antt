@@ -1,6 +1,6 @@
 -- What is told of the further steps of the hands of some rows, and of the calls of thrown tiles.
-use Rattle.std.specs.Prelude.{ℕ, ◌+◌, ◌*◌, ◌==◌, ◌&&◌, Bool, if◌then◌else◌, nat_lt, ℤ, List, [], ◌∷◌, map, replicate, slice_index_or, Option, Some, None}
-use Rattle.riichi_arrays.specs.Columns.{discards_row, no_hand, shape_at, shanten_by}
+use Rattle.std.specs.Prelude.{ℕ, ◌+◌, ◌==◌, if◌then◌else◌, nat_lt, pos, List, [], map, replicate, slice_index_or, Option, Some, None}
+use Rattle.riichi_arrays.specs.Columns.{discards_row, shape_at}
 use Rattle.riichi_arrays.specs.Hands.{no_tiles}
 use Rattle.riichi_arrays.specs.declared.call_columns.CallRow.{CallRow}
 use Rattle.riichi_arrays.specs.declared.hands.Hands.{Hands}
@@ -74,7 +74,7 @@ meld_byte (Ankan held) = 192 + (held + 1)
 -- the meld and the discards of a call
 abbrev pub call_row : Option Call → CallRow
 call_row None = record { meld = 0; kinds = 0; live = no_tiles }
-call_row (Some call) = let discards = discards_row 0 call.discards in record { meld = meld_byte call.meld; kinds = discards.kinds; live = discards.live }
+call_row (Some call) = let discards = discards_row (pos 0) call.discards in record { meld = meld_byte call.meld; kinds = discards.kinds; live = discards.live }
 
 -- the calls of a row, and what is told of them, one for each claim
 abbrev pub calls_at : List (List ℕ) → List (List ℕ) → List (List ℕ) → List (List ℕ) → ℕ → List (Option Call)

@@ -45,10 +45,11 @@ fn call_row(call: &Option<Call>) -> CallRow
     match call {
         Some(call) => {
             let discards = discards_row(0, &call.discards);
+            let live = discards.live;
             CallRow {
                 meld: meld_byte(&call.meld),
                 kinds: discards.kinds.bits(),
-                live: discards.live,
+                live,
             }
         }
         None => NO_CALL,
@@ -81,6 +82,8 @@ fn thrown_in(row: &[u8; 2]) -> Option<Thrown>
     }
 }
 
+const NO_CALLS: [Option<Call>; 4] = [None; 4];
+
 /// The calls of a row.
 fn calls_at<R: RowSource>(
     source: &mut R,
@@ -91,15 +94,21 @@ fn calls_at<R: RowSource>(
     ensures calls { result ≡ calls_by (thirteen_of_row hands.now row) (thrown_in thrown.now) }
     ensures stays { source.new ≡ source.old }
 {
-    match (hands.thirteen_at(row), thrown_in(thrown)) {
-        (Some(asked), Some(thrown)) if is_left(&asked, thrown.tile) => {
-            riichi_deeper::calls(source, &asked, &thrown)
-        }
-        _ => [None; 4],
+    let Some(asked) = hands.thirteen_at(row) else {
+        return NO_CALLS;
+    };
+    let Some(thrown) = thrown_in(thrown) else {
+        return NO_CALLS;
+    };
+    if is_left(&asked, thrown.tile) {
+        riichi_deeper::calls(source, &asked, &thrown)
+    } else {
+        NO_CALLS
     }
 }
 
 /// What is told of the calls of a row, one for each claim.
+#[derive(Clone, Copy)]
 struct CallsRow {
     melds: [u8; 4],
     kinds: [u64; 4],
@@ -114,10 +123,11 @@ fn calls_told(calls: &[Option<Call>; 4]) -> CallsRow
     let [highest, middle, lowest, triplet] = calls;
     let (highest, middle) = (call_row(highest), call_row(middle));
     let (lowest, triplet) = (call_row(lowest), call_row(triplet));
+    let (first, second, third, fourth) = (highest.live, middle.live, lowest.live, triplet.live);
     CallsRow {
         melds: [highest.meld, middle.meld, lowest.meld, triplet.meld],
         kinds: [highest.kinds, middle.kinds, lowest.kinds, triplet.kinds],
-        live: [highest.live, middle.live, lowest.live, triplet.live],
+        live: [first, second, third, fourth],
     }
 }
 
@@ -144,9 +154,10 @@ fn fill_calls<R: RowSource>(
     for row in 0..rows {
         let calls = calls_at(source, hands, &thrown[row], row);
         let told = calls_told(&calls);
-        melds[row] = told.melds;
-        kinds[row] = told.kinds;
-        live[row] = told.live;
+        let (called, discards, copies) = (told.melds, told.kinds, told.live);
+        melds[row] = called;
+        kinds[row] = discards;
+        live[row] = copies;
     }
     rows
 }

@@ -14,6 +14,7 @@ use riichi_shape::{FreshRows, KeptRow, KeptUpper, LentMemo, RowSource, shanten_w
 const FEW_HANDS: usize = 4;
 
 /// What is told of a hand of thirteen tiles.
+#[derive(Clone, Copy)]
 struct OutlookRow {
     shanten: i8,
     outlook: Option<Outlook>,
