@@ -6,6 +6,8 @@ const PAGE = 65536;
 const MOST_LINE = 4098;
 // What a call is given has so many pages of the memory, and what it tells two more.
 const GIVEN_PAGES = 4;
+// So many bytes of what it tells are of one column.
+const COLUMN = 4096;
 // A text of games is no longer.
 const MOST_GAME = GIVEN_PAGES * PAGE;
 
@@ -94,6 +96,23 @@ export class Desk {
   // The lines that say why the answer is what it is.
   explain(line, rules) {
     return this.#ask("explain", line, rules).split("\n").filter((it) => it !== "");
+  }
+
+  // Of each hand of thirteen tiles (its counts, melds as bytes and the tiles that are seen) good and second; 0 of one that is ready.
+  outlooks(hands) {
+    const memory = new Uint8Array(this.#exports.memory.buffer);
+    const [counts, melds, seen] = [0, 1, 2].map((page) => this.#line + page * PAGE);
+    const [shanten, second, good] = [0, 1, 2].map((place) => this.#room + place * COLUMN);
+    memory.fill(0, melds, melds + 4 * hands.length);
+    hands.forEach((hand, row) => {
+      memory.set(hand.counts, counts + 34 * row);
+      memory.set(hand.melds, melds + 4 * row);
+      memory.set(hand.seen, seen + 34 * row);
+    });
+    const arrays = [counts, melds, seen, shanten, second, good].flatMap((place) => [BigInt(place), BigInt(hands.length)]);
+    this.#exports.riichi_deeper(...arrays);
+    const view = new DataView(memory.buffer);
+    return hands.map((_, row) => ({ good: memory[good + row], second: view.getUint16(second + 2 * row, true) }));
   }
 
   // What the command `game` answers to a text of games; null where it is too long for a phone.

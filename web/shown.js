@@ -1,6 +1,7 @@
 // The answer to one line, as it is shown.
 
 import { make, tileImage } from "./elements.js";
+import { furtherParts } from "./further.js";
 import { named, shantenWords, yakuName } from "./names.js";
 import { points, signed } from "./numbers.js";
 import { wordsOf } from "./record.js";
@@ -93,5 +94,5 @@ export function shownAnswer(answer, about) {
 export function shownWhole(answer, about, first = []) {
   const hasRows = about.reasons.length > 0 && answer.answer !== "refused";
   const reasons = hasRows ? [make("dl", { class: "why", "aria-label": phrase("reasons") }, ...rowsOfReasons(about, first))] : [];
-  return [...shownAnswer(answer, about), ...reasons, make("p", { class: "raw", lang: "en" }, about.text)];
+  return [...shownAnswer(answer, about), ...furtherParts(answer, about), ...reasons, make("p", { class: "raw", lang: "en" }, about.text)];
 }

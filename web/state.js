@@ -6,6 +6,7 @@ export const state = {
   record: emptyRecord("win"),
   line: lineOf(emptyRecord("win")),
   target: "hand", // where a tapped tile goes
+  isFurther: false, // whether what stands beyond the next step is shown
   isRed: false, // whether the next five is a red one
   past: [], // what stood before each change
   handId: 0, // the number of this hand in the list of hands; 0 while it isn't there
