@@ -20,7 +20,7 @@ function tileCounts(tiles) {
 }
 
 // A hand as the library's calls for many hands have it; after a discard, which is then seen.
-function handRow({ hand, melds, seen }, discard) {
+function shapeRow({ hand, melds, seen }, discard) {
   const row = { counts: tileCounts(hand), melds: melds.map((meld) => MELD_BYTES[meld.word] + Math.min(...placesOfKinds(meld.tiles))), seen: tileCounts(seen) };
   if (discard !== undefined) {
     const [kind] = placesOfKinds([discard]);
@@ -38,7 +38,7 @@ function markedCell(number, most) {
 function shownTable({ discards, live }, line) {
   const record = recordOf(line);
   const tiles = discards?.map(({ discard }) => discard) ?? [undefined];
-  const outlooks = state.desk.outlooks(tiles.map((tile) => handRow(record, tile)));
+  const outlooks = state.desk.outlooks(tiles.map((tile) => shapeRow(record, tile)));
   const columns = [discards?.map((it) => it.live) ?? [live], outlooks.map(({ good }) => good), outlooks.map(({ second }) => second)];
   const names = ["live tiles", "good", "second"].map((word) => make("th", { scope: "col" }, phrase(word)));
   const first = (tile) => (tile === undefined ? [] : [make("th", { scope: "row" }, tileImage(tile))]);

@@ -7,7 +7,7 @@ const MOST_LINE = 4098;
 // What a call is given has so many pages of the memory, and what it tells two more.
 const GIVEN_PAGES = 4;
 // So many bytes of what it tells are of one column.
-const COLUMN = 4096;
+const COLUMN_ROOM = 4096;
 // A text of games is no longer.
 const MOST_GAME = GIVEN_PAGES * PAGE;
 
@@ -102,7 +102,7 @@ export class Desk {
   outlooks(hands) {
     const memory = new Uint8Array(this.#exports.memory.buffer);
     const [counts, melds, seen] = [0, 1, 2].map((page) => this.#line + page * PAGE);
-    const [shanten, second, good] = [0, 1, 2].map((place) => this.#room + place * COLUMN);
+    const [shanten, second, good] = [0, 1, 2].map((place) => this.#room + place * COLUMN_ROOM);
     memory.fill(0, melds, melds + 4 * hands.length);
     hands.forEach((hand, row) => {
       memory.set(hand.counts, counts + 34 * row);
