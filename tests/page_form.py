@@ -173,6 +173,25 @@ def test_shapes(browser: Browser) -> None:
     told("waits", 9, browser.run("document.querySelectorAll('#answer .accepted .tile').length"))
 
 
+# The rows of what stands beyond the next step: the numbers of each, the most marked by a star.
+FURTHER = """[...document.querySelectorAll('#answer .further tbody tr')].map((row) =>
+  [...row.querySelectorAll('td')].map((it) => it.textContent + (it.className === 'most' ? '*' : '')).join(' '))"""
+
+
+def test_further_steps(browser: Browser) -> None:
+    fresh(browser)
+    type_line(browser, "shape 123456789m1134p")
+    told("nothing beyond a hand that is ready", [], browser.run(FURTHER))
+    type_line(browser, "shape 234m45678p34s558s")
+    told("closed at first", [], browser.run(FURTHER))
+    browser.tap("#answer summary")
+    told("of thirteen tiles", ["20 20 165"], browser.run(FURTHER))
+    type_line(browser, "shape 45678m345p2467s88s")
+    told("open for the next hand", True, len(browser.run(FURTHER)) > 1)
+    told("the most tiles and the most good ones", True, {"33* 10", "20 20*"} <= {" ".join(it.split()[:2]) for it in browser.run(FURTHER)})
+
+
+
 def test_explanations(browser: Browser) -> None:
     """The rows of an explanation are those of the command `explain`; tiles are drawn, so their text is left out here, melds have their
     names, and points are written as everywhere on the page."""
