@@ -1,5 +1,6 @@
 //! Numbers behind a text.
 ghost use Rattle.std.specs.Prelude.{◌≡◌, ◌++◌, OnOk, decimal, string_bytes};
+ghost use Rattle.std.specs.Fmt.{signed_decimal};
 ghost use Rattle.riichi_standings_text.specs.Texts as spec;
 
 use arrayvec::ArrayString;
@@ -19,7 +20,9 @@ pub(crate) fn digits_of(count: u64) -> Digits
 }
 
 /// Points in decimal, with their sign where they are below 0.
-pub(crate) fn signed_digits(points: i64) -> Digits {
+pub(crate) fn signed_digits(points: i64) -> Digits
+    ensures { result.bytes ≡ signed_decimal points }
+{
     let mut digits = Digits::new();
     push_number(&mut digits, points);
     digits
@@ -34,7 +37,9 @@ pub(crate) fn push_count(text: &mut String, count: u64) -> Result<(), AllocError
 }
 
 /// Writes points in decimal.
-pub(crate) fn push_points(text: &mut String, points: i64) -> Result<(), AllocError> {
+pub(crate) fn push_points(text: &mut String, points: i64) -> Result<(), AllocError>
+    ensures { OnOk result (string_bytes text.new ≡ string_bytes text.old ++ signed_decimal points) }
+{
     let digits = signed_digits(points);
     text.push_str(digits.as_str())
 }

@@ -1,4 +1,4 @@
-use Rattle.std.proofs.Common.{◌≡◌, List, ℕ, ◌++◌, ap, ◌∙◌, subst}
+use Rattle.std.proofs.Common.{◌≡◌, List, ◌++◌, ap, ◌∙◌, subst}
 use Rattle.std.specs.Prelude.{OnOk, filter, string_bytes}
 use Rattle.riichi_standings.specs.Laws.{name_at}
 use Rattle.riichi_standings.specs.Tallies.{is_of}
