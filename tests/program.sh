@@ -50,7 +50,7 @@ explains() {
 
 # what the system says of a full disk, and of a folder in place of standard input
 full='riichi_desk: standard output: No space left on device (os error 28)'
-folder='riichi_desk: standard input: Is a directory (os error 21)'
+folder=$'riichi_desk: standard input: Is a directory (os error 21)\n  it is a folder: name the files in it'
 
 # the command waits
 row 0 'waits 123456789m' '' waits 1112345678999m
@@ -415,10 +415,12 @@ row 0 "$(for ((i = 0; i < 63; i++)); do echo "table $i"; done)" '' score "${many
 # a hand too many in one file, and just as many as it may have; no memory for the hands; no memory for a thread's stack
 yes 'waits 1112345678999m' | head -n 1000001 > "$room/many"
 row 2 '' 'riichi_desk: fault B1' score "$room/many"
+row 2 '' "  $room/many: \`score\` takes 1000000 hands of a file at most; cut it in two, or run \`line --file\`, which takes any number" score "$room/second" "$room/many"
+row 2 '' '  65 files: `score` takes 64 at most, and 1000000 hands of each; run it twice, or `line --file`' score "${many[@]}" "$room/none"
 head -n 1000000 "$room/many" > "$room/most"
 told 'a score of 1,000,000 hands' "$({ echo 'table 0'; yes 'waits 123456789m' | head -n 1000000; } | sha256sum)" "$("$program" score "$room/most" 2> "$room/said" | sha256sum)"
 rm "$room/most"
-told 'a score without memory' $'riichi_desk: fault F3\nstatus 4' "$(ulimit -v 60000; "$program" score "$room/many" 2>&1; echo "status $?")"
+told 'a score without memory' $'riichi_desk: fault F3\n  there is no memory\n  `score` keeps all answers until the last is made; `line --file` writes them as they are made\nstatus 4' "$(ulimit -v 60000; "$program" score "$room/many" 2>&1; echo "status $?")"
 told 'a score without a thread' "$("$program" score "$room/first")"$'\nstatus 1' "$(ulimit -v 30000; "$program" score --workers 4 "$room/first" 2>&1; echo "status $?")"
 told 'a full disk at the end of a score' "riichi_desk: fault F2
 $full
@@ -468,7 +470,45 @@ told 'the terminal behind them' "riichi_desk: $room/crew: $slip"$'\nstatus 1' "$
 told 'their answers are the same' "$(sha256sum < "$room/quiet.answers")" "$(sha256sum < "$room/crew.answers")"
 told 'lines with --quiet' "riichi_desk: $room/quiet: $slip"$'\nstatus 1' "$(tr -d '\r' < "$room/quiet.screen")"
 told 'lines whose answers come to the terminal' 0 "$(grep -c 'lines a second' "$room/typed.screen")"
-told 'a fault behind lines' "riichi_desk: $room/fault: $slip"$'\n'"riichi_desk: cannot open $room/none"$'\nstatus 3' "$(wiped fault)"
+missing="riichi_desk: cannot open $room/none
+riichi_desk: $room/none: No such file or directory (os error 2)
+  look at the name, and at the folder that the command runs in; a name with a space stands in quotes
+status 3"
+told 'a fault behind lines' "riichi_desk: $room/fault: $slip"$'\n'"$missing" "$(wiped fault)"
+for words in 'line --file' 'explain --file' score game 'need Anna' standings replay; do
+  told "$words without its file" "$missing" "$("$program" $words "$room/none" 2>&1; echo "status $?")"
+done
+# a command for one line says on a terminal what there is to say beside the answer, which stays as it is
+beside() { : > "$room/answers"; python3 -c "$screen" "$room/answers" "$program" "$@" | tr -d '\r'; cat "$room/answers"; }
+"$program" explain win 234m567m345p67s99s on=5s by=ron seat=s round=E > "$room/beside"
+told 'a refusal on a terminal' "$(tail -n +2 "$room/beside")
+status 1
+$(head -n 1 "$room/beside")" "$(beside win 234m567m345p67s99s on=5s by=ron seat=s round=E)"
+told 'an answer on a terminal' $'  why: riichi_desk explain win 234m567m345p67s99s on=5s by=ron seat=S round=E\nstatus 0\nwon 1 han 30 fu 1000 gain 1000 pinfu' \
+  "$(beside win 234m567m345p67s99s on=5s by=ron seat=S round=E)"
+told 'an answer under other rules' '  why: riichi_desk explain --rules 2-ura win 234m567m345p67s99s on=5s by=ron seat=S round=E' \
+  "$(beside win --rules 2-ura 234m567m345p67s99s on=5s by=ron seat=S round=E | head -n 1)"
+told 'waits on a terminal' $'  why: riichi_desk explain waits 1112345678999m\nstatus 0\nwaits 123456789m' "$(beside waits 1112345678999m)"
+told 'waits of a wrong hand on a terminal' "$("$program" explain waits 123456789m111z | tail -n +2)" "$(beside waits 123456789m111z | grep '^  ')"
+told 'a shape on a terminal' '  why: riichi_desk explain shape 123456789m1134p' "$(beside shape 123456789m1134p | head -n 1)"
+# how a text was saved is named, whichever command reads it
+for words in line 'line --workers 2' explain game 'need Anna -' 'standings -' 'seats - 1'; do
+  told "a byte order mark: $words" 1 "$(printf '\xef\xbb\xbfrules 2\n' | "$program" $words 2>&1 | grep -c 'riichi_desk: standard input: a byte order mark stands before the first line')"
+  told "UTF-16: $words" 1 "$(printf '\xff\xfer\0u\0l\0e\0s\0 \0002\0\n\0' | "$program" $words 2>&1 | grep -c 'riichi_desk: standard input: the text is UTF-16')"
+done
+printf '\xfe\xff\0w' > "$room/upper"
+told 'UTF-16 the other way round' 1 "$("$program" score "$room/upper" 2>&1 | grep -c "riichi_desk: $room/upper: the text is UTF-16")"
+# two winners of one discard that are both paid the counters and sticks
+winners='line 3: this win and the one before it are by ron on the same tile, with the same counters and sticks, and both are paid them'
+one='win 123456789m11p23s on=1s by=ron seat=S round=E counters=2 sticks=1'
+two_winners() { printf '%s\n# the other winner\n%s\n' "$one" "$1" > "$room/winners"; "$program" score "$room/winners" 2>&1 > /dev/null | grep -c "riichi_desk: $room/winners: $winners"; }
+told 'two winners' 1 "$(two_winners "${one/seat=S/seat=W}")"
+for other in "$one" "${one/seat=S/seat=W counters=0}" "${one/seat=S round=E counters=2 sticks=1/seat=W round=E counters=2}" "${one/on=1s by=ron seat=S/on=4s by=ron seat=W}" \
+  "${one/by=ron seat=S/by=tsumo seat=W}" "${one/seat=S round=E/seat=W round=S}" $'waits 1112345678999m\n'"${one/seat=S/seat=W}"; do
+  told "no two winners: ${other//$'\n'/, }" 0 "$(two_winners "$other")"
+done
+printf 'rules 2\n%s\n%s\n' "${one/ counters=2 sticks=1/}" "${one/seat=S round=E counters=2 sticks=1/seat=W round=E}" > "$room/winners"
+told 'two winners without counters and sticks' '' "$("$program" score "$room/winners" 2>&1 > /dev/null)"
 told 'a score of a pipe shows how many lines it has read' 'some' "$(grep -qE $'\r[0-9]+ lines, [0-9]+ lines a second\x1b\[K' "$room/score.screen" && echo some)"
 told 'the terminal behind a score' "riichi_desk: $room/score: $slip"$'\nstatus 1' "$(wiped score)"
 told 'a score with --quiet' 0 "$(grep -c 'lines a second' "$room/score-quiet.screen")"

@@ -1,3 +1,2 @@
 pub mod Texts
-pub mod OpeningLemmas
 pub mod PairingLemmas

@@ -30,6 +30,7 @@ HasStatus (failures.FewerTables session) status = status ≡ 2
 HasStatus failures.OneSession status = status ≡ 2
 HasStatus failures.SessionsUnsaid status = status ≡ 2
 HasStatus (failures.CannotOpen file) status = status ≡ 3
+HasStatus (failures.Score fault files file) status = status ≡ status_of fault
 HasStatus (failures.Fault fault) status = status ≡ status_of fault
 HasStatus (failures.Explained fault) status = status ≡ status_of (desk_fault fault)
 

@@ -5,5 +5,4 @@ pub mod Told
 pub mod Failures
 pub mod Outcomes
 pub mod Slips
-pub mod Openings
 pub mod Standing

@@ -9,11 +9,12 @@ ghost use Rattle.desk_script.specs.Replay.{Replays};
 ghost use Rattle.riichi_desk.specs.Failures.{EndsWith, IsReportedBy, IsUnwritten};
 ghost use Rattle.riichi_desk.specs.Outcomes.{IsCarriedOut, TellsUnknown, TellsWaits};
 
+use crate::beside::tell_beside;
 use crate::codes::print_codes;
 use crate::failure::{Failure, report};
 use crate::files::{length_of, open_file};
 use crate::games::{answer_games, is_hinted};
-use crate::lines::answer_lines;
+use crate::lines::{answer_lines, record_line};
 use crate::needs::answer_need;
 use crate::noted::Notes;
 use crate::progress::{Progress, Terminals};
@@ -24,10 +25,11 @@ use crate::standings::answer_standings;
 use crate::version::print_version;
 use crate::yaku::print_yaku;
 use clap::error::ErrorKind;
-use desk_cli::{Lines, Request, commands, nearest_rule, request_of};
+use desk_cli::{CommandName, Lines, Request, commands, nearest_rule, request_of};
 use desk_io::{FromReader, Sink, Source, ToWriter};
 use desk_lines::{replay_text, waits_answer};
 use desk_score::ScoreFault;
+use riichi_hand::Rules;
 use std::alloc::Global;
 use std::env::{self, Env};
 use std::io::{self, Eprint, Input, Print};
@@ -149,8 +151,10 @@ fn answer_request<'a, R: Input + Print + Eprint + Files + Clock + Threads + Sync
     ensures { IsCarriedOut request.now result }
 {
     match request {
-        Request::Waits(hand) => print_waits(rt, notes, *hand),
-        Request::Lines { lines, manner, .. } => answer_lines(rt, notes, progress, *lines, *manner),
+        Request::Waits(hand) => print_waits(rt, notes, terminals, *hand),
+        Request::Lines { lines, manner, .. } => {
+            answer_lines(rt, notes, progress, terminals, *lines, *manner)
+        }
         Request::HelpCodes => print_codes(rt, notes),
         Request::HelpRules => print_rules(rt, notes),
         Request::HelpYaku => print_yaku(rt, notes),
@@ -158,12 +162,12 @@ fn answer_request<'a, R: Input + Print + Eprint + Files + Clock + Threads + Sync
         Request::UnknownPlace(word) => Err(Failure::UnknownPlace(*word)),
         Request::Games { files, manner } => {
             let is_hinted = is_hinted(*manner, terminals);
-            answer_games(rt, notes, *files, *manner, is_hinted)
+            answer_games(rt, notes, progress, *files, *manner, is_hinted)
         }
-        Request::Need(need) => answer_need(rt, notes, need),
+        Request::Need(need) => answer_need(rt, notes, progress, need),
         Request::Seats(seats) => answer_seats(rt, notes, progress, seats),
-        Request::Standings(asked) => answer_standings(rt, notes, asked),
-        Request::Replay(file) => replay_file(rt, notes, *file),
+        Request::Standings(asked) => answer_standings(rt, notes, progress, asked),
+        Request::Replay(file) => replay_file(rt, notes, progress, *file),
         Request::Score {
             files,
             workers,
@@ -219,23 +223,33 @@ fn print_help<'a, R: Print + Eprint>(
     printed(notes, help.print(rt))
 }
 
-/// Prints the waits of a hand, or why it can't be read.
-fn print_waits<'a, R: Print>(rt: &R, notes: &Notes<'a>, hand: &str) -> Result<bool, Failure<'a>>
+/// Prints the waits of a hand, or why it can't be read. On a terminal it says below that what there is to say beside it.
+fn print_waits<'a, R: Print + Eprint + AllocGlobal>(
+    rt: &R,
+    notes: &Notes<'a>,
+    terminals: Terminals,
+    hand: &str,
+) -> Result<bool, Failure<'a>>
     ensures { IfOk result (TellsWaits hand.now) }
 {
-    let line = waits_answer(hand.as_bytes());
-    let text = line.text;
+    let answer = waits_answer(hand.as_bytes());
+    let text = answer.text;
     printed(notes, println!(rt; "{text}"))?;
-    Ok(line.refused)
+    if terminals.has_errors {
+        let line = record_line(rt.alloc(), CommandName::Waits, hand)?;
+        tell_beside(rt, Rules::One, answer.refused, line.as_str());
+    }
+    Ok(answer.refused)
 }
 
 /// Answers the script of a file on standard output.
-fn replay_file<'a, R: Print + Files + AllocGlobal>(
+fn replay_file<'a, R: Print + Eprint + Files + Clock + AllocGlobal>(
     rt: &R,
     notes: &Notes<'a>,
+    progress: &Progress<'_, R>,
     file: &'a str,
 ) -> Result<bool, Failure<'a>> {
-    let mut reader = FromReader::new(notes.reader(file, open_file(rt, file)?));
+    let mut reader = FromReader::new(notes.text(progress, file, open_file(rt, notes, file)?));
     let mut writer = ToWriter::new(notes.output(rt));
     replay_reader(rt.alloc(), &mut reader, &mut writer)
 }

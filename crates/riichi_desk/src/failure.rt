@@ -54,6 +54,12 @@ pub enum Failure<'a> {
     SessionsUnsaid,
     /// This file can't be opened.
     CannotOpen(&'a str),
+    /// A score of so many files found no memory, or there was too much: of this file, where that is known.
+    Score {
+        fault: ScoreFault,
+        files: usize,
+        file: Option<&'a str>,
+    },
     /// Input, output, memory or a thread failed, or there is too much.
     Fault(ScoreFault),
     /// The same of the command that explains, and so is reported in words.
@@ -124,9 +130,10 @@ impl Failure<'_> {
         }
     }
 
-    /// Whether the input could not be read, or the answers not be written.
+    /// Whether a file could not be opened, the input not be read, or the answers not be written.
     pub fn is_of_stream(&self) -> bool {
         match self {
+            Failure::CannotOpen(_) => true,
             Failure::Fault(ScoreFault::Read) | Failure::Explained(DeskFault::Read) => true,
             _ => self.is_write(),
         }
@@ -150,6 +157,7 @@ impl Failure<'_> {
             | Failure::OneSession
             | Failure::SessionsUnsaid => 2,
             Failure::CannotOpen(_) => 3,
+            Failure::Score { fault, .. } => fault.status(),
             Failure::Fault(fault) => fault.status(),
             Failure::Explained(fault) => ScoreFault::from(*fault).status(),
         }
@@ -249,6 +257,32 @@ fn tell_thin<R: Eprint>(rt: &R, session: u32) {
     let _ = eprintln!(rt; "riichi_desk: session {session} has fewer games than the one before it");
 }
 
+/// Says which fault it is, and for want of memory or a thread that in words; of a stream that failed it is said below.
+fn tell_fault<R: Eprint>(rt: &R, fault: ScoreFault) {
+    let (code, words) = (fault.code(), fault.words());
+    let _ = eprintln!(rt; "riichi_desk: fault {code}");
+    let _ = match fault {
+        ScoreFault::Memory | ScoreFault::Thread => eprintln!(rt; "  {words}"),
+        ScoreFault::Read | ScoreFault::Write | ScoreFault::Range => Ok(()),
+    };
+}
+
+/// Says which limit a score met, and what may be done.
+fn tell_score<R: Eprint>(rt: &R, fault: ScoreFault, files: usize, file: Option<&str>) {
+    tell_fault(rt, fault);
+    let _ = match (fault, file) {
+        (ScoreFault::Range, None) => eprintln!(rt;
+            "  {files} files: `score` takes 64 at most, and 1000000 hands of each; run it twice, or `line --file`, which takes any number"
+        ),
+        (ScoreFault::Range, Some(file)) => eprintln!(rt;
+            "  {file}: `score` takes 1000000 hands of a file at most; cut it in two, or run `line --file`, which takes any number"
+        ),
+        _ => eprintln!(rt;
+            "  `score` keeps all answers until the last is made; `line --file` writes them as they are made"
+        ),
+    };
+}
+
 fn say<R: Eprint>(rt: &R, words: &str) {
     let _ = eprintln!(rt; "{words}");
 }
@@ -287,10 +321,8 @@ pub fn report<R: Print + Eprint>(rt: &R, failure: &Failure<'_>) -> u8
             let file = *file;
             let _ = eprintln!(rt; "riichi_desk: cannot open {file}");
         }
-        Failure::Fault(fault) => {
-            let code = fault.code();
-            let _ = eprintln!(rt; "riichi_desk: fault {code}");
-        }
+        Failure::Score { fault, files, file } => tell_score(rt, *fault, *files, *file),
+        Failure::Fault(fault) => tell_fault(rt, *fault),
         Failure::Explained(fault) => {
             let fault = ScoreFault::from(*fault);
             let (code, words) = (fault.code(), fault.words());

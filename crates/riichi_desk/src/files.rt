@@ -3,6 +3,7 @@ ghost use Rattle.std.specs.Prelude.{◌≡◌, IfErr};
 ghost use Rattle.riichi_desk.specs.Failures.{IsUnopened, is_input};
 
 use crate::failure::Failure;
+use crate::noted::Notes;
 use desk_score::ScoreFault;
 use std::rt::Files;
 use std::{fs, io};
@@ -14,15 +15,22 @@ pub fn is_input(name: &str) -> bool
     name == "-"
 }
 
-/// Opens a file to be read.
-pub fn open_file<'a, R: Files>(rt: &R, file: &'a str) -> Result<R::File, Failure<'a>>
+/// Opens a file to be read. Why that fails is noted.
+pub fn open_file<'a, R: Files>(
+    rt: &R,
+    notes: &Notes<'a>,
+    file: &'a str,
+) -> Result<R::File, Failure<'a>>
     ensures { IfErr result (IsUnopened file.now) }
 {
     match fs::open(rt, file) {
         Ok(opened) => Ok(opened),
         Err(error) => Err(match error.kind() {
             io::ErrorKind::OutOfMemory => Failure::Fault(ScoreFault::Memory),
-            _ => Failure::CannotOpen(file),
+            _ => {
+                notes.unopened(file, &error);
+                Failure::CannotOpen(file)
+            }
         }),
     }
 }

@@ -5,34 +5,37 @@ ghost use Rattle.riichi_desk.specs.Games as spec;
 use crate::failure::Failure;
 use crate::files::{is_input, open_file};
 use crate::noted::Notes;
-use crate::progress::Terminals;
+use crate::progress::{Progress, Terminals};
 use desk_cli::{GameForm, GameManner};
 use desk_game_hints::hinted_games_text;
 use desk_games::{GamesForm, games_text_with};
 use desk_io::{FromReader, Sink, Source, ToWriter};
 use desk_lines::DeskReport;
-use std::io::{Input, Print};
+use std::io::{Eprint, Input, Print};
 use std::rt::Files;
+use std::time::Clock;
 
 /// Answers texts of games on standard output, those of files or of standard input: whether a line is refused.
-pub fn answer_games<'a, R: Input + Print + Files>(
+pub fn answer_games<'a, R: Input + Print + Eprint + Files + Clock>(
     rt: &R,
     notes: &Notes<'a>,
+    progress: &Progress<'_, R>,
     files: Option<&[&'a str]>,
     manner: GameManner,
     is_hinted: bool,
 ) -> Result<bool, Failure<'a>> {
     let mut writer = ToWriter::new(notes.output(rt));
     match files {
-        None | Some([]) => answer_file(rt, notes, "-", manner, is_hinted, &mut writer),
-        Some(files) => answer_files(rt, notes, files, manner, is_hinted, &mut writer),
+        None | Some([]) => answer_file(rt, notes, progress, "-", manner, is_hinted, &mut writer),
+        Some(files) => answer_files(rt, notes, progress, files, manner, is_hinted, &mut writer),
     }
 }
 
 /// Answers the texts of files, one after another. The first that can't be opened or read ends it.
-fn answer_files<'a, R: Input + Files, W: Sink>(
+fn answer_files<'a, R: Input + Eprint + Files + Clock, W: Sink>(
     rt: &R,
     notes: &Notes<'a>,
+    progress: &Progress<'_, R>,
     files: &[&'a str],
     manner: GameManner,
     is_hinted: bool,
@@ -43,15 +46,16 @@ fn answer_files<'a, R: Input + Files, W: Sink>(
 {
     let mut is_refused = false;
     for file in files {
-        is_refused |= answer_file(rt, notes, *file, manner, is_hinted, writer)?;
+        is_refused |= answer_file(rt, notes, progress, *file, manner, is_hinted, writer)?;
     }
     Ok(is_refused)
 }
 
 /// Answers the text of a file, or of standard input.
-fn answer_file<'a, R: Input + Files, W: Sink>(
+fn answer_file<'a, R: Input + Eprint + Files + Clock, W: Sink>(
     rt: &R,
     notes: &Notes<'a>,
+    progress: &Progress<'_, R>,
     file: &'a str,
     manner: GameManner,
     is_hinted: bool,
@@ -61,10 +65,10 @@ fn answer_file<'a, R: Input + Files, W: Sink>(
         × spec.AnswersGames ⟦<W as Sink>⟧ manner is_hinted writer.old writer.new text is_refused) }
 {
     if is_input(file) {
-        let mut reader = FromReader::new(notes.reader("standard input", rt.reader()));
+        let mut reader = FromReader::new(notes.text(progress, "standard input", rt.reader()));
         return answer_source(manner, is_hinted, &mut reader, writer);
     }
-    let mut reader = FromReader::new(notes.reader(file, open_file(rt, file)?));
+    let mut reader = FromReader::new(notes.text(progress, file, open_file(rt, notes, file)?));
     answer_source(manner, is_hinted, &mut reader, writer)
 }
 

@@ -9,10 +9,11 @@ ghost use Rattle.riichi_desk.specs.Failures.{IsOfFiles, failure_in};
 ghost use Rattle.riichi_desk.specs.Told as told;
 
 use crate::answering::{Answering, has_refusal};
+use crate::beside::tell_beside;
 use crate::failure::Failure;
 use crate::files::{is_input, open_file};
 use crate::noted::Notes;
-use crate::progress::Progress;
+use crate::progress::{Progress, Terminals};
 use crate::slips::tell_slip;
 use desk_cli::{CommandName, Lines, Manner};
 use desk_io::{FromReader, Sink, ToWriter};
@@ -22,11 +23,13 @@ use std::rt::Files;
 use std::thread::Threads;
 use std::time::Clock;
 
-/// Answers record lines on standard output: whether a line is refused.
+/// Answers record lines on standard output: whether a line is refused. Below the answer to one line of a command of its own it is
+/// said on a terminal what there is to say beside it.
 pub fn answer_lines<'a, R: Input + Print + Eprint + Files + Clock + Threads + Sync + AllocGlobal>(
     rt: &R,
     notes: &Notes<'a>,
     progress: &Progress<'_, R>,
+    terminals: Terminals,
     lines: Lines<'_, 'a>,
     manner: Manner,
 ) -> Result<bool, Failure<'a>>
@@ -43,7 +46,11 @@ pub fn answer_lines<'a, R: Input + Print + Eprint + Files + Clock + Threads + Sy
             if let Some(words) = words {
                 push_spaced(&mut text, words)?;
             }
-            answering.text(rt, &text)
+            let is_refused = answering.text(rt, &text)?;
+            if terminals.has_errors {
+                tell_beside(rt, manner.rules, is_refused, text.as_str());
+            }
+            Ok(is_refused)
         }
     }
 }
@@ -110,7 +117,7 @@ impl<W: Sink> Answering<W> {
             if is_input(file) {
                 is_refused |= self.input(rt, notes, progress)?;
             } else {
-                let stream = open_file(rt, file)?;
+                let stream = open_file(rt, notes, file)?;
                 is_refused |= self.stream(rt, notes, progress, file, stream)?;
             }
         }
@@ -143,7 +150,7 @@ fn one_line(alloc: Global, words: &[&str]) -> Result<String, AllocError>
 }
 
 /// A job and its hand.
-fn record_line(alloc: Global, job: CommandName, hand: &str) -> Result<String, AllocError>
+pub fn record_line(alloc: Global, job: CommandName, hand: &str) -> Result<String, AllocError>
     ensures { IfOk result (λ text. string_bytes text ≡ command_word job ++ 32 ∷ hand.now) }
 {
     let mut text = String::from_str(alloc, job.word())?;

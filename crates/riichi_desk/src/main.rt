@@ -3,11 +3,13 @@
 //! `desk_cli` reads the command line into a `Request`, `answers` carries it out, `lines` over record lines, which `answering`
 //! answers in their form, and `scoring` over the files of tables, `codes`, `yaku`, `rules` and `version` print what they are named for. `failure` says what is written on standard
 //! error and with which exit status the program ends; `noted` keeps what the system said of a stream that failed, `slips` says which
-//! line of a text set no profile, `opening` that a text is one of games, and `progress` shows on a terminal how far the answers are.
+//! line of a text set no profile, `beside` on a terminal what a refusal means, and `progress` shows there how far the answers are.
+//! What is said of texts and lines is made by `desk_notes`.
 #![tactic(auto)]
 
 mod answering;
 mod answers;
+mod beside;
 mod codes;
 mod failure;
 mod files;
@@ -15,7 +17,6 @@ mod games;
 mod lines;
 mod needs;
 mod noted;
-mod opening;
 mod pairing;
 mod progress;
 mod rules;

@@ -11,6 +11,7 @@ ghost use Rattle.riichi_desk.specs.Needing as spec;
 use crate::failure::Failure;
 use crate::files::{is_input, open_file};
 use crate::noted::Notes;
+use crate::progress::Progress;
 use desk_cli::NeedRequest;
 use desk_games::{GameAtHand, GameDesk, games_played};
 use desk_io::{FromReader, Sink, ToWriter};
@@ -19,8 +20,9 @@ use riichi_game_text::{Names, players_if_said};
 use riichi_hand::Rules;
 use riichi_need::{Question, needs_of};
 use riichi_need_text::needs_text;
-use std::io::{Input, Print, Read};
+use std::io::{Eprint, Input, Print, Read};
 use std::rt::Files;
+use std::time::Clock;
 
 /// Why there is nothing that a player needs.
 #[derive(Clone, Copy, Debug, PartialEq, Eq)]
@@ -36,13 +38,14 @@ pub enum NoNeed {
 }
 
 /// Prints what a player needs.
-pub fn answer_need<'a, R: Input + Print + Files>(
+pub fn answer_need<'a, R: Input + Print + Eprint + Files + Clock>(
     rt: &R,
     notes: &Notes<'a>,
+    progress: &Progress<'_, R>,
     need: &NeedRequest<'a>,
 ) -> Result<bool, Failure<'a>> {
     let file = need.file;
-    let desk = desk_behind(rt, notes, file, need.rules)?;
+    let desk = desk_behind(rt, notes, progress, file, need.rules)?;
     match question_of(&desk, need) {
         Ok(question) => print_game_needs(rt, notes, &desk, &question),
         Err(why) => Err(no_need(need, why)),
@@ -87,16 +90,20 @@ fn print_needs<'a, R: Print>(
 }
 
 /// The games of a file, or of standard input, behind its last line.
-fn desk_behind<'a, R: Input + Files>(
+fn desk_behind<'a, R: Input + Eprint + Files + Clock>(
     rt: &R,
     notes: &Notes<'a>,
+    progress: &Progress<'_, R>,
     file: &'a str,
     rules: Rules,
 ) -> Result<GameDesk, Failure<'a>> {
     if is_input(file) {
-        return desk_of(rules, notes.reader("standard input", rt.reader()));
+        return desk_of(rules, notes.text(progress, "standard input", rt.reader()));
     }
-    desk_of(rules, notes.reader(file, open_file(rt, file)?))
+    desk_of(
+        rules,
+        notes.text(progress, file, open_file(rt, notes, file)?),
+    )
 }
 
 fn desk_of<'a, T: Read + Drop>(rules: Rules, stream: T) -> Result<GameDesk, Failure<'a>> {

@@ -1,6 +1,6 @@
-//! What the system said of the stream that failed last.
-use crate::opening::{Opening, tell_games};
+//! What the system said of the stream that failed last, and what the first bytes of a stream show.
 use crate::progress::Progress;
+use desk_notes::{Opening, Sign, SignWords};
 use std::cell::Cell;
 use std::io::{self, Eprint, ErrorKind, Print, Printer, Read, Write};
 use std::time::Clock;
@@ -53,6 +53,11 @@ impl<'a> Notes<'a> {
         }
     }
 
+    /// Notes that the file of this name can't be opened.
+    pub fn unopened(&self, name: &'a str, error: &io::Error) {
+        self.note(name, error);
+    }
+
     /// Notes that standard output failed.
     pub fn output_failed(&self, error: &io::Error) {
         self.note(OUTPUT, error);
@@ -74,7 +79,7 @@ impl<'a> Notes<'a> {
         }
     }
 
-    /// Says on standard error which stream failed, in the system's words.
+    /// Says on standard error which stream failed, in the system's words, and what may be done.
     pub fn tell<R: Eprint>(&self, rt: &R) {
         if let Some(note) = self.last.get() {
             let name = note.name;
@@ -88,7 +93,22 @@ impl<'a> Notes<'a> {
                     let _ = eprintln!(rt; "riichi_desk: {name}: {kind}");
                 }
             }
+            if let Some(advice) = advice_on(note.kind) {
+                let _ = eprintln!(rt; "  {advice}");
+            }
         }
+    }
+}
+
+/// What may be done where a file can't be opened or read.
+fn advice_on(kind: ErrorKind) -> Option<&'static str> {
+    match kind {
+        ErrorKind::NotFound => Some(
+            "look at the name, and at the folder that the command runs in; a name with a space stands in quotes",
+        ),
+        ErrorKind::IsADirectory => Some("it is a folder: name the files in it"),
+        ErrorKind::PermissionDenied => Some("whoever runs the command may not do that here"),
+        _ => None,
     }
 }
 
@@ -108,12 +128,14 @@ impl<R: Read> Read for Noted<'_, '_, R> {
     }
 }
 
-/// A reader of record lines: its failures are noted, and how far it is read is shown on standard error, up to its end. Where the
-/// lines are those of a game, it says so there.
+/// A reader of a text: its failures are noted, and how far it is read is shown on standard error, up to its end. What its first
+/// bytes show is said there: that it was saved so that its first line can't be read, or is of games where record lines are wanted.
 #[derive(Drop)]
 pub struct Watched<'n, 'a, R, T> {
     reader: Noted<'n, 'a, T>,
     opening: Opening,
+    /// Whether record lines are wanted, and no games.
+    is_of_lines: bool,
     progress: &'n Progress<'n, R>,
 }
 
@@ -125,10 +147,46 @@ impl<'a> Notes<'a> {
         name: &'a str,
         stream: T,
     ) -> Watched<'n, 'a, R, T> {
+        self.watched(true, progress, name, stream)
+    }
+
+    /// A reader of another text under this name: of games, names or a script.
+    pub fn text<'n, R: Eprint + Clock, T: Read>(
+        &'n self,
+        progress: &'n Progress<'n, R>,
+        name: &'a str,
+        stream: T,
+    ) -> Watched<'n, 'a, R, T> {
+        self.watched(false, progress, name, stream)
+    }
+
+    fn watched<'n, R: Eprint + Clock, T: Read>(
+        &'n self,
+        is_of_lines: bool,
+        progress: &'n Progress<'n, R>,
+        name: &'a str,
+        stream: T,
+    ) -> Watched<'n, 'a, R, T> {
         Watched {
             reader: self.reader(name, stream),
             opening: Opening::new(),
+            is_of_lines,
             progress,
+        }
+    }
+}
+
+impl<R: Eprint + Clock, T> Watched<'_, '_, R, T> {
+    /// Says what the first bytes show, where these are the ones that show it.
+    fn look(&mut self, bytes: &[u8]) {
+        if let Some(sign) = self.opening.sign_by(bytes) {
+            if self.is_of_lines || sign != Sign::Games {
+                let words = SignWords {
+                    name: self.reader.name,
+                    sign,
+                };
+                let _ = eprintln!(self.progress.wiped(); "{words}");
+            }
         }
     }
 }
@@ -141,9 +199,7 @@ impl<R: Eprint + Clock, T: Read> Read for Watched<'_, '_, R, T> {
         match buffer.get(..count) {
             None | Some([]) => self.progress.wipe(),
             Some(bytes) => {
-                if self.opening.is_game_by(bytes) {
-                    tell_games(self.progress, self.reader.name);
-                }
+                self.look(bytes);
                 self.progress.read(bytes);
             }
         }

@@ -6,6 +6,7 @@ ghost use Rattle.riichi_seats_text.specs.Games.{games_text};
 
 use crate::failure::Failure;
 use crate::noted::Notes;
+use crate::progress::Progress;
 use crate::standings::{hall_of, list_of};
 use desk_cli::SeatsRequest;
 use desk_io::Sink;
@@ -16,9 +17,10 @@ use riichi_seats::seats_by_order;
 use riichi_seats_text::session_text;
 use riichi_standings::last_session;
 use std::alloc::{AllocError, Global};
-use std::io::Input;
+use std::io::{Eprint, Input};
 use std::rt::Files;
 use std::thread::Threads;
+use std::time::Clock;
 
 /// How many files are judged side by side.
 const WORKERS: u32 = 4;
@@ -33,9 +35,10 @@ pub struct SoFar {
 }
 
 /// The players of a list in the order of their places in the games so far. Who had no game comes last, in the order of the list.
-pub fn seated_so_far<'a, R: Input + Files + Threads + Sync + AllocGlobal>(
+pub fn seated_so_far<'a, R: Input + Eprint + Files + Clock + Threads + Sync + AllocGlobal>(
     rt: &R,
     notes: &Notes<'a>,
+    progress: &Progress<'_, R>,
     seats: &SeatsRequest<'_, 'a>,
     files: &[&'a str],
     names: &[Name],
@@ -45,7 +48,7 @@ pub fn seated_so_far<'a, R: Input + Files + Threads + Sync + AllocGlobal>(
     if seats.sessions != 1 {
         return Err(Failure::OneSession);
     }
-    let hall = hall_of(rt, notes, seats.rules, files, WORKERS)?;
+    let hall = hall_of(rt, notes, progress, seats.rules, files, WORKERS)?;
     let list = list_of(&hall, seats.ties)?;
     let sessions = last_session(hall.tournament().results());
     if sessions == 0 {

@@ -12,7 +12,9 @@ use crate::progress::Progress;
 use crate::slips::tell_slip;
 use desk_io::{FromReader, Sink, Source, ToWriter};
 use desk_lines::Rules;
+use desk_notes::{Looked, WinnersWords, look_through};
 use desk_score::{ScoreFault, ScoreReport, score_text_with};
+use std::fs;
 use std::io::{Eprint, Print};
 use std::rt::Files;
 use std::thread::Threads;
@@ -20,6 +22,12 @@ use std::time::Clock;
 
 /// The most files. That there are more is reported before any is opened.
 const MOST_FILES: usize = 64;
+
+/// The most hands of a file.
+const MOST_HANDS: u64 = 1_000_000;
+
+/// The most bytes of a file that is read twice to look for two winners: an evening has a fiftieth of it.
+const MOST_TWICE: u64 = 1 << 20;
 
 /// How tables are answered.
 #[derive(Clone, Copy)]
@@ -40,16 +48,27 @@ pub fn score_files<'a, R: Files + Print + Eprint + Clock + Threads + Sync + Allo
     files: &[&'a str],
     scoring: Scoring,
 ) -> Result<bool, Failure<'a>>
-    ensures { 64 < length files.now → result ≡ Err (Failure.Fault ScoreFault.Range) }
+    ensures { 64 < length files.now
+        → result ≡ Err (Failure.Score ScoreFault.Range (length files.now) None) }
 {
     if are_too_many(files) {
-        return Err(Failure::Fault(ScoreFault::Range));
+        return Err(Failure::Score {
+            fault: ScoreFault::Range,
+            files: files.len(),
+            file: None,
+        });
     }
     let readers = open_files(rt, notes, progress, files)?;
     let mut writer = ToWriter::new(notes.output(rt));
-    let report = score_readers(rt, scoring, files, readers, &mut writer)?;
+    let report = match score_readers(rt, scoring, files, readers, &mut writer) {
+        Ok(report) => report,
+        Err(failure) => return Err(told_of_score(rt, scoring.rules, files, failure)),
+    };
     for (name, slip) in files.iter().zip(report.slips.as_slice()) {
         tell_slip(progress, *name, slip);
+    }
+    for file in files {
+        tell_winners(rt, progress, scoring.rules, *file);
     }
     Ok(is_refused(&report))
 }
@@ -94,6 +113,74 @@ fn score_readers<'a, S: Source + Drop, W: Sink, R: Threads + Sync + AllocGlobal>
     Ok(score_text_with(rt, rt.alloc(), rules, names, readers, workers, writer)?)
 }
 
+/// The failure of a score with what is known of it: how many files there were, and which has more hands than it may.
+fn told_of_score<'a, R: Files + AllocGlobal>(
+    rt: &R,
+    rules: Rules,
+    files: &[&'a str],
+    failure: Failure<'a>,
+) -> Failure<'a> {
+    match failure {
+        Failure::Fault(ScoreFault::Range) => Failure::Score {
+            fault: ScoreFault::Range,
+            files: files.len(),
+            file: files
+                .iter()
+                .copied()
+                .find(|file| has_too_many(rt, rules, file)),
+        },
+        Failure::Fault(ScoreFault::Memory) => Failure::Score {
+            fault: ScoreFault::Memory,
+            files: files.len(),
+            file: None,
+        },
+        other => other,
+    }
+}
+
+/// Whether a file has more hands than a table may.
+fn has_too_many<R: Files + AllocGlobal>(rt: &R, rules: Rules, file: &str) -> bool {
+    look_at(rt, rules, file).is_some_and(|looked| looked.counts.answered > MOST_HANDS)
+}
+
+/// Says which wins of a file are paid the counters and sticks that the win before them was paid, unless it is a long one.
+fn tell_winners<R: Files + Eprint + Clock + AllocGlobal>(
+    rt: &R,
+    progress: &Progress<'_, R>,
+    rules: Rules,
+    file: &str,
+) {
+    if !is_short(rt, file) {
+        return;
+    }
+    if let Some(looked) = look_at(rt, rules, file) {
+        for line in looked.paid_again.as_slice() {
+            let words = WinnersWords {
+                name: file,
+                line: *line,
+            };
+            let _ = eprintln!(progress.wiped(); "{words}");
+        }
+    }
+}
+
+/// Whether a file is no longer than those that are read twice.
+fn is_short<R: Files>(rt: &R, file: &str) -> bool {
+    match fs::metadata(rt, file) {
+        Ok(told) => told.len() <= MOST_TWICE,
+        Err(_) => false,
+    }
+}
+
+/// What is seen of a file that is read once more. Of a pipe, which gives its text once, that is nothing.
+fn look_at<R: Files + AllocGlobal>(rt: &R, rules: Rules, file: &str) -> Option<Looked> {
+    if !fs::metadata(rt, file).ok()?.is_file() {
+        return None;
+    }
+    let stream = fs::open(rt, file).ok()?;
+    look_through(rt.alloc(), rules, &mut FromReader::new(stream)).ok()
+}
+
 /// Opens the files in the order given. The first that can't be opened ends it.
 fn open_files<'n, 'a, R: Files + Eprint + Clock + AllocGlobal>(
     rt: &R,
@@ -103,7 +190,7 @@ fn open_files<'n, 'a, R: Files + Eprint + Clock + AllocGlobal>(
 ) -> Result<Vec<FromReader<Watched<'n, 'a, R, R::File>>>, Failure<'a>> {
     let mut readers = Vec::new(rt.alloc());
     for file in files {
-        let reader = notes.lines(progress, *file, open_file(rt, *file)?);
+        let reader = notes.lines(progress, *file, open_file(rt, notes, *file)?);
         if readers.push(FromReader::new(reader)).is_err() {
             return Err(Failure::Fault(ScoreFault::Memory));
         }

@@ -45,7 +45,7 @@ pub fn answer_seats<'a, R: Input + Print + Eprint + Files + Clock + Threads + Sy
     if !are_table_words(rt.alloc(), words)? {
         return Err(Failure::NoTableWords(words));
     }
-    let text = text_of(rt, notes, seats.file)?;
+    let text = text_of(rt, notes, progress, seats.file)?;
     let names = match read_names(rt.alloc(), text.as_slice()) {
         Ok(names) => names,
         Err(error) => return Err(no_list(seats.file, error)),
@@ -53,7 +53,7 @@ pub fn answer_seats<'a, R: Input + Print + Eprint + Files + Clock + Threads + Sy
     let plan = plan_of(names.len(), seats);
     let mut writer = ToWriter::new(notes.output(rt));
     if let Some(files) = seats.so_far {
-        let so_far = seated_so_far(rt, notes, seats, files, names.as_slice())?;
+        let so_far = seated_so_far(rt, notes, progress, seats, files, names.as_slice())?;
         write_session(
             rt.alloc(),
             &so_far,
@@ -147,19 +147,24 @@ fn no_list<'a>(file: &'a str, error: ListError) -> Failure<'a> {
 }
 
 /// The text of a file, or of standard input.
-fn text_of<'a, R: Input + Files + AllocGlobal>(
+fn text_of<'a, R: Input + Eprint + Files + Clock + AllocGlobal>(
     rt: &R,
     notes: &Notes<'a>,
+    progress: &Progress<'_, R>,
     file: &'a str,
 ) -> Result<Vec<u8>, Failure<'a>> {
     if is_input(file) {
         return read_list(
             rt.alloc(),
             file,
-            notes.reader("standard input", rt.reader()),
+            notes.text(progress, "standard input", rt.reader()),
         );
     }
-    read_list(rt.alloc(), file, notes.reader(file, open_file(rt, file)?))
+    read_list(
+        rt.alloc(),
+        file,
+        notes.text(progress, file, open_file(rt, notes, file)?),
+    )
 }
 
 /// All that a reader gives, unless it is too much for a list of names.

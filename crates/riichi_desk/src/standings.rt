@@ -5,6 +5,7 @@ ghost use Rattle.riichi_desk.specs.Standing as spec;
 use crate::failure::Failure;
 use crate::files::{is_input, open_file};
 use crate::noted::Notes;
+use crate::progress::Progress;
 use desk_cli::{StandingsForm, StandingsRequest, TieWord};
 use desk_io::ToWriter;
 use desk_lines::{DeskFault, write_all};
@@ -20,14 +21,19 @@ use std::alloc::{AllocError, Global};
 use std::io::{Eprint, ErrorKind, Input, Print, Read};
 use std::rt::Files;
 use std::thread::Threads;
+use std::time::Clock;
 
 /// Prints the standings of a tournament. Names that may be one player's are told on standard error.
-pub fn answer_standings<'a, R: Input + Print + Eprint + Files + Threads + Sync + AllocGlobal>(
+pub fn answer_standings<
+    'a,
+    R: Input + Print + Eprint + Files + Clock + Threads + Sync + AllocGlobal,
+>(
     rt: &R,
     notes: &Notes<'a>,
+    progress: &Progress<'_, R>,
     asked: &StandingsRequest<'_, 'a>,
 ) -> Result<bool, Failure<'a>> {
-    let hall = hall_of(rt, notes, asked.rules, asked.files, asked.workers)?;
+    let hall = hall_of(rt, notes, progress, asked.rules, asked.files, asked.workers)?;
     let list = list_of(&hall, asked.ties)?;
     let tournament = hall.tournament();
     tell_alike(rt, tournament.names());
@@ -83,16 +89,17 @@ fn no_standings<'a>(fault: StandingsFault) -> Failure<'a> {
 }
 
 /// The games of files, so many of which are judged side by side. What is at fault is that of the first file that has a fault.
-pub fn hall_of<'a, R: Input + Files + Threads + Sync + AllocGlobal>(
+pub fn hall_of<'a, R: Input + Eprint + Files + Clock + Threads + Sync + AllocGlobal>(
     rt: &R,
     notes: &Notes<'a>,
+    progress: &Progress<'_, R>,
     given: Rules,
     files: &[&'a str],
     workers: u32,
 ) -> Result<Hall, Failure<'a>> {
     let mut texts = Vec::new(rt.alloc());
     for file in files {
-        let text = text_of(rt, notes, *file)?;
+        let text = text_of(rt, notes, progress, *file)?;
         if texts.push(text).is_err() {
             return Err(Failure::Fault(ScoreFault::Memory));
         }
@@ -128,15 +135,22 @@ fn take_judged<'a>(
 }
 
 /// The text of a file, or of standard input.
-fn text_of<'a, R: Input + Files + AllocGlobal>(
+fn text_of<'a, R: Input + Eprint + Files + Clock + AllocGlobal>(
     rt: &R,
     notes: &Notes<'a>,
+    progress: &Progress<'_, R>,
     file: &'a str,
 ) -> Result<Vec<u8>, Failure<'a>> {
     if is_input(file) {
-        read_whole(rt.alloc(), notes.reader("standard input", rt.reader()))
+        read_whole(
+            rt.alloc(),
+            notes.text(progress, "standard input", rt.reader()),
+        )
     } else {
-        read_whole(rt.alloc(), notes.reader(file, open_file(rt, file)?))
+        read_whole(
+            rt.alloc(),
+            notes.text(progress, file, open_file(rt, notes, file)?),
+        )
     }
 }
 
