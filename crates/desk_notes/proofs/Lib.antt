@@ -1,2 +1,2 @@
 pub mod OpeningLemmas
-pub mod WinnersLemmas
+pub mod LookingLemmas

@@ -1,3 +1,4 @@
 pub mod Signs
 pub mod Meanings
 pub mod Winners
+pub mod Looking

@@ -14,18 +14,18 @@ abbrev pub begins_game : List ℕ → Bool
 begins_game text = starts_with nat_eq text (codes "game") && begins_space (drop 4 text)
 
 -- a byte order mark of UTF-8
-abbrev pub begins_mark : List ℕ → Bool
-begins_mark text = starts_with nat_eq text (239 ∷ 187 ∷ 191 ∷ [])
+abbrev pub has_byte_order_mark : List ℕ → Bool
+has_byte_order_mark text = starts_with nat_eq text (239 ∷ 187 ∷ 191 ∷ [])
 
 -- a byte order mark of UTF-16, the lower byte of each character first or the upper one
-abbrev pub begins_wide : List ℕ → Bool
-begins_wide text = starts_with nat_eq text (255 ∷ 254 ∷ []) || starts_with nat_eq text (254 ∷ 255 ∷ [])
+abbrev pub has_wide_mark : List ℕ → Bool
+has_wide_mark text = starts_with nat_eq text (255 ∷ 254 ∷ []) || starts_with nat_eq text (254 ∷ 255 ∷ [])
 
 abbrev pub sign_of : List ℕ → Option Sign
 sign_of text =
     if begins_game text then Some Games
-    else if begins_mark text then Some Mark
-    else if begins_wide text then Some Wide
+    else if has_byte_order_mark text then Some Mark
+    else if has_wide_mark text then Some Wide
     else None
 
 -- the sign is seen by what is read of the text, and was not before
@@ -38,5 +38,5 @@ sign_words Mark = codes "a byte order mark stands before the first line, which i
 sign_words Wide = codes "the text is UTF-16, and no line of it can be read; save it as UTF-8 (in Notepad `UTF-8`; in PowerShell `Get-Content OLD | Set-Content -Encoding ascii NEW`)"
 
 -- the name of the text, and what is said of it
-abbrev pub sign_text : List ℕ → Sign → List ℕ
-sign_text name sign = codes "riichi_desk: " ++ (name ++ (codes ": " ++ sign_words sign))
+abbrev pub sign_line : List ℕ → Sign → List ℕ
+sign_line name sign = codes "riichi_desk: " ++ (name ++ (codes ": " ++ sign_words sign))

@@ -12,12 +12,14 @@
 //! ```
 #![tactic(auto)]
 
+mod looking;
 mod meaning;
 mod opening;
 mod sign;
 mod winners;
 
+pub use looking::{Looked, look_through};
 pub use meaning::{WhyWords, meaning_of};
 pub use opening::Opening;
 pub use sign::{Sign, SignWords};
-pub use winners::{Looked, WinnersWords, look_through};
+pub use winners::WinnersWords;

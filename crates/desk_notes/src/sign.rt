@@ -53,9 +53,9 @@ pub struct SignWords<'s> {
 
 impl fmt::Display for SignWords<'_> {
     ghost use Rattle.std.specs.Prelude.{Some};
-    ghost use Rattle.desk_notes.specs.Signs.{sign_text};
+    ghost use Rattle.desk_notes.specs.Signs.{sign_line};
 
-    ghost output = { λ words. Some (sign_text words.name.now words.sign) };
+    ghost output = { λ words. Some (sign_line words.name.now words.sign) };
 
     fn fmt<W: fmt::Write>(&self, f: &mut fmt::Formatter<W>) -> fmt::Result {
         let (name, words) = (self.name, self.sign.words());

@@ -1,7 +1,7 @@
-use Rattle.std.proofs.Common.{None, refl, sym, ◌∙◌}
+use Rattle.std.proofs.Common.{None, sym}
 use Rattle.std.proofs.lemmas.List.{append-nil}
-use Rattle.desk_notes.proofs.WinnersLemmas.{seen_more}
-use Rattle.desk_notes.proofs.winners.WinnersTeller.tell.Goals as goal
+use Rattle.desk_notes.proofs.LookingLemmas.{seen_more}
+use Rattle.desk_notes.proofs.looking.LookingTeller.tell.Goals as goal
 
 pub returns-clause-told : goal.returns-clause-told
 returns-clause-told g c = record {
