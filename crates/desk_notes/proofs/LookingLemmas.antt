@@ -66,10 +66,10 @@ outcome_long given rules line long =
 
 -- What was seen before, with what is seen of one more line.
 module _ (given : Rules) (rules : Option Rules) (lines : List (List ℕ)) (line next : List ℕ) (before : rules ≡ rules_after given lines) (as_this : IsToldAs 4096 line next) where
-  outcome : LineOutcome
+  abbrev outcome : LineOutcome
   outcome = outcome_under (record_rules given rules line) line
 
-  last : LineOutcome
+  abbrev last : LineOutcome
   last = outcome_under (record_rules given (rules_after given lines) next) next
 
   outcome_told : outcome ≡ last

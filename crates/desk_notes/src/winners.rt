@@ -20,7 +20,7 @@ pub(crate) fn is_paid_again(before: &Option<WinRecord>, outcome: &LineOutcome) -
 
 /// The win that the last record is, where it is one, once a line comes to this.
 pub(crate) fn last_win_by(before: Option<WinRecord>, outcome: &LineOutcome) -> Option<WinRecord>
-    ensures { result ≡ spec.last_win_by before.now outcome.now }
+    ensures { result ≡ spec.last_win_by before outcome.now }
 {
     match outcome {
         Ok(None) => before,
