@@ -507,6 +507,8 @@ for other in "$one" "${one/seat=S/seat=W counters=0}" "${one/seat=S round=E coun
   "${one/by=ron seat=S/by=tsumo seat=W}" "${one/seat=S round=E/seat=W round=S}" $'waits 1112345678999m\n'"${one/seat=S/seat=W}"; do
   told "no two winners: ${other//$'\n'/, }" 0 "$(two_winners "$other")"
 done
+printf 'rules 2\n%s\n%s\n' "$one" "${one/seat=S/seat=W}" > "$room/winners"
+told 'two winners behind a line of rules' 1 "$("$program" score "$room/winners" 2>&1 > /dev/null | grep -c "riichi_desk: $room/winners: $winners")"
 printf 'rules 2\n%s\n%s\n' "${one/ counters=2 sticks=1/}" "${one/seat=S round=E counters=2 sticks=1/seat=W round=E}" > "$room/winners"
 told 'two winners without counters and sticks' '' "$("$program" score "$room/winners" 2>&1 > /dev/null)"
 told 'a score of a pipe shows how many lines it has read' 'some' "$(grep -qE $'\r[0-9]+ lines, [0-9]+ lines a second\x1b\[K' "$room/score.screen" && echo some)"
