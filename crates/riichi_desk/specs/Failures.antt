@@ -11,8 +11,17 @@ use Rattle.desk_cli.specs.declared.request.Form.TheVariants as forms
 use Rattle.desk_lines.specs.declared.fault.DeskFault.{DeskFault}
 use Rattle.desk_lines.specs.declared.fault.DeskFault.TheVariants as desk_names
 use Rattle.desk_score.specs.declared.score_fault.ScoreFault.TheVariants as fault_names
+use Rattle.desk_score.specs.declared.score_fault.ScoreFault.{ScoreFault}
+use Rattle.riichi_desk.specs.declared.scoring.ScoreLimit.{ScoreLimit}
+use Rattle.riichi_desk.specs.declared.scoring.ScoreLimit.TheVariants as limits
 use Rattle.riichi_desk.specs.declared.failure.Failure.{Failure}
 use Rattle.riichi_desk.specs.declared.failure.Failure.TheVariants as failures
+
+-- the fault that a limit of a score is
+abbrev pub limit_fault : ScoreLimit → ScoreFault
+limit_fault (limits.Files count) = fault_names.Range
+limit_fault (limits.Hands file) = fault_names.Range
+limit_fault limits.Memory = fault_names.Memory
 
 -- 0 where help or the version was asked for, 2 where the words are wrong, 3 where a file can't be opened; of a fault its own
 abbrev pub HasStatus : Failure → ℕ → Type 0
@@ -30,7 +39,7 @@ HasStatus (failures.FewerTables session) status = status ≡ 2
 HasStatus failures.OneSession status = status ≡ 2
 HasStatus failures.SessionsUnsaid status = status ≡ 2
 HasStatus (failures.CannotOpen file) status = status ≡ 3
-HasStatus (failures.Score fault files file) status = status ≡ status_of fault
+HasStatus (failures.Score limit) status = status ≡ status_of (limit_fault limit)
 HasStatus (failures.Fault fault) status = status ≡ status_of fault
 HasStatus (failures.Explained fault) status = status ≡ status_of (desk_fault fault)
 
@@ -65,6 +74,17 @@ IsUnopened name failure = failure ≡ failures.Fault fault_names.Memory
 abbrev pub IsUnknownRule : List ℕ → Failure → Type 0
 IsUnknownRule text (failures.UnknownRule word nearest) = (word.now ≡ before_first (λ byte. byte == 43) text) × IsNearestRule word.now nearest
 IsUnknownRule text failure = failure ≡ failures.Fault fault_names.Memory
+
+-- a file has too many hands
+abbrev pub IsOfHands : Failure → Type 0
+IsOfHands (failures.Score (limits.Hands file)) = Unit {0}
+IsOfHands other = ⊥
+
+-- of the failures of a score too many hands and want of memory are told as its limits
+abbrev pub IsLimited : Failure → Failure → Type 0
+IsLimited (failures.Fault fault_names.Range) told = IsOfHands told
+IsLimited (failures.Fault fault_names.Memory) told = told ≡ failures.Score limits.Memory
+IsLimited failure told = told ≡ failure
 
 -- the answers could not be written
 abbrev pub IsUnwritten : Failure → Type 0

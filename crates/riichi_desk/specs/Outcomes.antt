@@ -1,11 +1,11 @@
 -- What is known of the outcome of a request: whether a line is refused, or which failure keeps the program from an answer.
-use Rattle.std.specs.Prelude.{◌≡◌, ◌≢◌, ◌<◌, ℕ, Bool, true, false, List, length, sum, Option, None, Result, Ok, Err, IfOk}
+use Rattle.std.specs.Prelude.{◌≡◌, ◌≢◌, ◌<◌, ℕ, Bool, true, false, List, length, sum, Result, Ok, Err, IfOk}
 use Rattle.std.specs.Borrow.{Bor}
 use Rattle.riichi_tiles.specs.Notation.{Spells, IsFirstFault}
 use Rattle.riichi_tiles.specs.declared.notation.NotationFault.{NotationFault}
 use Rattle.desk_cli.specs.declared.request.Request.{Request}
 use Rattle.desk_cli.specs.declared.request.Request.TheVariants as requests
-use Rattle.desk_score.specs.declared.score_fault.ScoreFault.TheVariants.{Range}
+use Rattle.riichi_desk.specs.declared.scoring.ScoreLimit.TheVariants.{Files}
 use Rattle.riichi_desk.specs.Failures.{IsUnknownRule}
 use Rattle.riichi_desk.specs.declared.failure.Failure.{Failure}
 use Rattle.riichi_desk.specs.declared.failure.Failure.TheVariants.{Score, UnknownPlace}
@@ -31,7 +31,7 @@ abbrev pub IsCarriedOut : Request → Result Bool Failure → Type 0
 IsCarriedOut (requests.UnknownRules word) outcome = TellsUnknown word.now outcome
 IsCarriedOut (requests.Waits hand) outcome = IfOk outcome (TellsWaits hand.now)
 IsCarriedOut (requests.Lines lines manner is_quiet) outcome = IfOk outcome (TellsRefused manner.rules lines)
-IsCarriedOut (requests.Score files workers rules is_numbered is_quiet) outcome = 64 < length files.now → outcome ≡ Err (Score Range (length files.now) None)
+IsCarriedOut (requests.Score files workers rules is_numbered is_quiet) outcome = 64 < length files.now → outcome ≡ Err (Score (Files (length files.now)))
 IsCarriedOut (requests.Replay file) outcome = Unit {0}
 IsCarriedOut (requests.Games files manner) outcome = Unit {0}
 IsCarriedOut (requests.Need need) outcome = Unit {0}

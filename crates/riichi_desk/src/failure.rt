@@ -3,6 +3,7 @@ ghost use Rattle.std.specs.Bool.{OnTrue};
 ghost use Rattle.riichi_desk.specs.Failures.{HasStatus, IsReportedBy, IsUnwritten};
 
 use crate::needs::NoNeed;
+use crate::scoring::ScoreLimit;
 use clap::Error;
 use clap::error::ErrorKind;
 use desk_lines::DeskFault;
@@ -54,12 +55,8 @@ pub enum Failure<'a> {
     SessionsUnsaid,
     /// This file can't be opened.
     CannotOpen(&'a str),
-    /// A score of so many files found no memory, or there was too much: of this file, where that is known.
-    Score {
-        fault: ScoreFault,
-        files: usize,
-        file: Option<&'a str>,
-    },
+    /// A score met this limit.
+    Score(ScoreLimit<'a>),
     /// Input, output, memory or a thread failed, or there is too much.
     Fault(ScoreFault),
     /// The same of the command that explains, and so is reported in words.
@@ -157,7 +154,7 @@ impl Failure<'_> {
             | Failure::OneSession
             | Failure::SessionsUnsaid => 2,
             Failure::CannotOpen(_) => 3,
-            Failure::Score { fault, .. } => fault.status(),
+            Failure::Score(limit) => limit.fault().status(),
             Failure::Fault(fault) => fault.status(),
             Failure::Explained(fault) => ScoreFault::from(*fault).status(),
         }
@@ -268,16 +265,19 @@ fn tell_fault<R: Eprint>(rt: &R, fault: ScoreFault) {
 }
 
 /// Says which limit a score met, and what may be done.
-fn tell_score<R: Eprint>(rt: &R, fault: ScoreFault, files: usize, file: Option<&str>) {
-    tell_fault(rt, fault);
-    let _ = match (fault, file) {
-        (ScoreFault::Range, None) => eprintln!(rt;
-            "  {files} files: `score` takes 64 at most, and 1000000 hands of each; run it twice, or `line --file`, which takes any number"
+fn tell_limit<R: Eprint>(rt: &R, limit: &ScoreLimit<'_>) {
+    tell_fault(rt, limit.fault());
+    let _ = match *limit {
+        ScoreLimit::Files(count) => eprintln!(rt;
+            "  {count} files: `score` takes 64 at most, and 1000000 hands of each; run it twice, or `line --file`, which takes any number"
         ),
-        (ScoreFault::Range, Some(file)) => eprintln!(rt;
+        ScoreLimit::Hands(Some(file)) => eprintln!(rt;
             "  {file}: `score` takes 1000000 hands of a file at most; cut it in two, or run `line --file`, which takes any number"
         ),
-        _ => eprintln!(rt;
+        ScoreLimit::Hands(None) => eprintln!(rt;
+            "  `score` takes 1000000 hands of a file at most; `line --file` takes any number"
+        ),
+        ScoreLimit::Memory => eprintln!(rt;
             "  `score` keeps all answers until the last is made; `line --file` writes them as they are made"
         ),
     };
@@ -321,7 +321,7 @@ pub fn report<R: Print + Eprint>(rt: &R, failure: &Failure<'_>) -> u8
             let file = *file;
             let _ = eprintln!(rt; "riichi_desk: cannot open {file}");
         }
-        Failure::Score { fault, files, file } => tell_score(rt, *fault, *files, *file),
+        Failure::Score(limit) => tell_limit(rt, limit),
         Failure::Fault(fault) => tell_fault(rt, *fault),
         Failure::Explained(fault) => {
             let fault = ScoreFault::from(*fault);

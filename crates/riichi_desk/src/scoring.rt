@@ -4,6 +4,7 @@ ghost use Rattle.desk_cli.specs.Requests.{texts};
 ghost use Rattle.desk_lines.specs.Streams.{WritesAll};
 ghost use Rattle.desk_score.specs.Score.{AllGive, score_by, score_report, score_slips};
 ghost use Rattle.desk_score.specs.declared.score_fault.ScoreFault.{ScoreFault};
+ghost use Rattle.riichi_desk.specs.Failures.{IsLimited, limit_fault};
 
 use crate::failure::Failure;
 use crate::files::open_file;
@@ -40,6 +41,29 @@ pub struct Scoring {
     pub is_numbered: bool,
 }
 
+/// A limit that a score met.
+#[derive(Clone, Copy, Debug, PartialEq, Eq)]
+pub enum ScoreLimit<'a> {
+    /// There are so many files, which are too many.
+    Files(usize),
+    /// A file has too many hands: this one, where it is known which.
+    Hands(Option<&'a str>),
+    /// There is no memory for the answers.
+    Memory,
+}
+
+impl ScoreLimit<'_> {
+    /// The fault that it is.
+    pub fn fault(&self) -> ScoreFault
+        ensures { result ≡ limit_fault self.now }
+    {
+        match self {
+            ScoreLimit::Files(_) | ScoreLimit::Hands(_) => ScoreFault::Range,
+            ScoreLimit::Memory => ScoreFault::Memory,
+        }
+    }
+}
+
 /// Answers the record lines of files on standard output, table by table: whether a line is refused.
 pub fn score_files<'a, R: Files + Print + Eprint + Clock + Threads + Sync + AllocGlobal>(
     rt: &R,
@@ -49,20 +73,16 @@ pub fn score_files<'a, R: Files + Print + Eprint + Clock + Threads + Sync + Allo
     scoring: Scoring,
 ) -> Result<bool, Failure<'a>>
     ensures { 64 < length files.now
-        → result ≡ Err (Failure.Score ScoreFault.Range (length files.now) None) }
+        → result ≡ Err (Failure.Score (ScoreLimit.Files (length files.now))) }
 {
     if are_too_many(files) {
-        return Err(Failure::Score {
-            fault: ScoreFault::Range,
-            files: files.len(),
-            file: None,
-        });
+        return Err(Failure::Score(ScoreLimit::Files(files.len())));
     }
     let readers = open_files(rt, notes, progress, files)?;
     let mut writer = ToWriter::new(notes.output(rt));
     let report = match score_readers(rt, scoring, files, readers, &mut writer) {
         Ok(report) => report,
-        Err(failure) => return Err(told_of_score(rt, scoring.rules, files, failure)),
+        Err(failure) => return Err(limited(rt, scoring.rules, files, failure)),
     };
     for (name, slip) in files.iter().zip(report.slips.as_slice()) {
         tell_slip(progress, *name, slip);
@@ -113,29 +133,36 @@ fn score_readers<'a, S: Source + Drop, W: Sink, R: Threads + Sync + AllocGlobal>
     Ok(score_text_with(rt, rt.alloc(), rules, names, readers, workers, writer)?)
 }
 
-/// The failure of a score with what is known of it: how many files there were, and which has more hands than it may.
-fn told_of_score<'a, R: Files + AllocGlobal>(
+/// The failure of a score, by the limit that it met where it met one: the file is looked for that has more hands than it may.
+fn limited<'a, R: Files + AllocGlobal>(
     rt: &R,
     rules: Rules,
     files: &[&'a str],
     failure: Failure<'a>,
-) -> Failure<'a> {
+) -> Failure<'a>
+    ensures { IsLimited failure result }
+{
     match failure {
-        Failure::Fault(ScoreFault::Range) => Failure::Score {
-            fault: ScoreFault::Range,
-            files: files.len(),
-            file: files
-                .iter()
-                .copied()
-                .find(|file| has_too_many(rt, rules, file)),
-        },
-        Failure::Fault(ScoreFault::Memory) => Failure::Score {
-            fault: ScoreFault::Memory,
-            files: files.len(),
-            file: None,
-        },
+        Failure::Fault(ScoreFault::Range) => {
+            Failure::Score(ScoreLimit::Hands(longest_file(rt, rules, files)))
+        }
+        Failure::Fault(ScoreFault::Memory) => Failure::Score(ScoreLimit::Memory),
         other => other,
     }
+}
+
+/// The first file that has more hands than a table may.
+fn longest_file<'a, R: Files + AllocGlobal>(
+    rt: &R,
+    rules: Rules,
+    files: &[&'a str],
+) -> Option<&'a str> {
+    for file in files {
+        if has_too_many(rt, rules, *file) {
+            return Some(*file);
+        }
+    }
+    None
 }
 
 /// Whether a file has more hands than a table may.
