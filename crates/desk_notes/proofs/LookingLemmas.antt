@@ -1,5 +1,5 @@
 -- The lines of a text that are looked through one by one.
-use Rattle.std.proofs.Common.{◌≡◌, ℕ, ◌<◌, ◌+◌, suc, List, [], ◌∷◌, ◌++◌, Bool, true, false, length, map, Option, Some, None, Err, refl, sym, subst, ◌∙◌, ap, arith}
+use Rattle.std.proofs.Common.{◌≡◌, ℕ, ◌<◌, ◌+◌, suc, List, [], ◌∷◌, ◌++◌, Bool, true, false, length, Option, Some, None, Err, refl, sym, subst, ◌∙◌, ap, arith}
 use Rattle.std.specs.Prelude.{unwrap_or}
 use Rattle.std.proofs.lemmas.List.{map-append, length-map}
 use Rattle.riichi_hand.specs.Rules.{Rules}
@@ -18,7 +18,7 @@ use Rattle.desk_lines.specs.declared.report.DeskReport.{DeskReport}
 use Rattle.desk_lines.proofs.AnswerLemmas.{same_as_told, rules_after-last, rules_long, records_long, report_on-last}
 use Rattle.desk_notes.specs.declared.looking.Looking.{Looking}
 use Rattle.desk_notes.specs.Winners.{LineOutcome, last_win, last_win_by, is_paid_again, put_if, paid_again_from}
-use Rattle.desk_notes.specs.Looking.{outcome_under, outcomes_on, paid_again, next_outcome, Takes, HasSeen}
+use Rattle.desk_notes.specs.Looking.{outcome_under, outcomes_on, paid_again, Takes, HasSeen}
 
 -- ---- one more outcome
 

@@ -136,7 +136,7 @@ fn push_if(numbers: &mut Vec<u64>, is_told: bool, number: u64) -> Result<(), All
 }
 
 impl Teller for Looking {
-    ghost use Rattle.std.specs.Prelude.{List, ℕ, Unit};
+    ghost use Rattle.std.specs.Prelude.{List, ℕ};
     ghost use Rattle.desk_notes.specs.Looking.{HasSeen};
 
     ghost Answer = { List ℕ };
