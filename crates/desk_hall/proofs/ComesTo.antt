@@ -2,9 +2,9 @@
 use Rattle.std.proofs.Common.{◌≡◌, ℕ, suc, ◌-◌, List, Bool, true, false, nat_eq, nat_lt, Option, None, Some, refl, sym, ap, ◌∙◌, length, arith, inl, inr}
 use Rattle.std.specs.Prelude.{slice_get, if◌then◌else◌}
 use Rattle.std.proofs.lemmas.Option.{slice_get_cases}
-use Rattle.desk_hall.specs.Books.{Book, front_of, whole, deal_at, next_number}
+use Rattle.desk_hall.specs.Books.{Book, front_before, whole, deal_at, next_number}
 use Rattle.desk_hall.specs.Deals.{Deal, can_stand}
-use Rattle.desk_hall.specs.Decided.{Request, HandsIn, Withdraws, Seen, seen_at, handed_in, taken, at_live, at_number, line_decided, withdrawn_at, withdrawal_decided}
+use Rattle.desk_hall.specs.Decided.{Request, HandsIn, Withdraws, Seen, seen_at, handed_in, at_next, at_live, at_number, line_decided, withdrawn_at, withdrawal_decided}
 use Rattle.desk_hall.specs.Histories.{Sent, comes_to}
 use Rattle.desk_hall.proofs.Numbers.{not_zero, not_less}
 use Rattle.desk_hall.specs.declared.decision.Decision.{Decision}
@@ -12,7 +12,7 @@ use Rattle.desk_hall.specs.declared.decision.Decision.TheVariants.{Taken, Again,
 
 -- ---- a line that is taken
 
-taken_is : {P : Type 0} (read : Option P) (position : P) → taken read ≡ Taken position → read ≡ Some position
+taken_is : {P : Type 0} (read : Option P) (position : P) → at_next read ≡ Taken position → read ≡ Some position
 taken_is None position h = absurd (cc)
 taken_is (Some other) position h = cc
 
@@ -84,13 +84,13 @@ pub record IsTaken {P : Type 0} (reads : P → List ℕ → Option P) (book : Bo
   pub hands_in : sent.request ≡ HandsIn line
   pub next : sent.number ≡ next_number book
   pub can : can_stand line ≡ true
-  pub read : reads (front_of reads book sent.number).position line ≡ Some position
+  pub read : reads (front_before reads book sent.number).position line ≡ Some position
 
 taken_by : {P : Type 0} (reads : P → List ℕ → Option P) (same : P → P → Bool) (book : Book P) (number : ℕ) (request : Request) (position : P)
     → comes_to reads same book (record { number = number; request = request }) ≡ Taken position → IsTaken reads book (record { number = number; request = request }) position
 taken_by reads same book number (HandsIn line) position h =
     let is = line_taken reads same (seen_at reads book number) number line position h in
-    let read = stands reads (front_of reads book number).position line (can_stand line) position is.3 in
+    let read = stands reads (front_before reads book number).position line (can_stand line) position is.3 in
     record { line = line; hands_in = refl; next = is_next book.deals number is.0 is.1 is.2; can = read.0; read = read.1 }
 taken_by reads same book number Withdraws position h = absurd (withdrawal_untaken (seen_at reads book number) number position h)
 
@@ -99,7 +99,7 @@ is_taken reads same book sent position h = taken_by reads same book sent.number 
 
 -- ---- a deal that is withdrawn
 
-taken_stays : {P : Type 0} (read : Option P) → taken read ≡ Withdrawn → ⊥
+taken_stays : {P : Type 0} (read : Option P) → at_next read ≡ Withdrawn → ⊥
 taken_stays None h = absurd (cc)
 taken_stays (Some position) h = absurd (cc)
 
@@ -171,7 +171,7 @@ is_withdrawn reads same book sent h = withdrawn_by reads same book sent.number s
 
 -- ---- an outcome that is there again
 
-taken_new : {P : Type 0} (read : Option P) (position : P) → taken read ≡ Again position → ⊥
+taken_new : {P : Type 0} (read : Option P) (position : P) → at_next read ≡ Again position → ⊥
 taken_new None position h = absurd (cc)
 taken_new (Some other) position h = absurd (cc)
 
@@ -193,13 +193,13 @@ pub record IsAgain {P : Type 0} (reads : P → List ℕ → Option P) (book : Bo
   pub deal : Deal
   pub deal_is : deal_at book number ≡ Some deal
   pub live : deal.is_withdrawn ≡ false
-  pub read : reads (front_of reads book number).position deal.line ≡ Some position
+  pub read : reads (front_before reads book number).position deal.line ≡ Some position
 
 number_again : {P : Type 0} (reads : P → List ℕ → Option P) (same : P → P → Bool) (book : Book P) (number : ℕ) (deal : Option Deal) (line : List ℕ) (position : P) → deal_at book number ≡ deal
-    → at_number reads same (front_of reads book number).position deal line ≡ Again position → IsAgain reads book number position
-number_again reads same book number None line position is h = absurd (taken_new (handed_in reads (front_of reads book number).position line) position h)
+    → at_number reads same (front_before reads book number).position deal line ≡ Again position → IsAgain reads book number position
+number_again reads same book number None line position is h = absurd (taken_new (handed_in reads (front_before reads book number).position line) position h)
 number_again reads same book number (Some deal) line position is h =
-    let front = (front_of reads book number).position in
+    let front = (front_before reads book number).position in
     let both = deal_again same deal.is_withdrawn (reads front deal.line) (handed_in reads front line) position h in
     record { deal = deal; deal_is = is; live = both.0; read = both.1 }
 
@@ -212,7 +212,7 @@ line_again : {P : Type 0} (reads : P → List ℕ → Option P) (same : P → P 
     → line_decided reads same (seen_at reads book number) number line ≡ Again position → IsAgain reads book number position
 unfolding line_decided
 line_again reads same book number line position h =
-    let front = (front_of reads book number).position in
+    let front = (front_before reads book number).position in
     number_again reads same book number (deal_at book number) line position refl
     (tests_again (nat_eq number 0) (nat_lt (next_number book) number) (at_number reads same front (deal_at book number) line) position h)
 
