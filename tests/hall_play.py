@@ -56,7 +56,7 @@ class Seat:
         self.table, self.side, self.record, self.rng = table, side, record, rng
         self.phone = Phone(hall.port, hall.tables[table], f"phone {side}")
         self.view: dict[str, Any] = {}
-        self.lines: dict[int, float] = {}
+        self.lines: dict[tuple[int, int], float] = {}
         self.moved = asyncio.Condition()
         self.path = f"/api/tables/{table}"
 
@@ -81,11 +81,11 @@ class Seat:
         """Waits until the next deal has this number; whether the game goes on."""
 
         def is_next() -> bool:
-            return self.view.get("session") == session and self.view["stage"] == "begun" and self.view["next"] >= number
+            return bool(self.view.get("session") == session and self.view["stage"] == "begun" and self.view["next"] >= number)
 
         async with self.moved:
             await self.moved.wait_for(is_next)
-            return self.view["ending"][0] != "over"
+            return bool(self.view["ending"][0] != "over")
 
     async def hand_in(self, session: int, number: int, line: str, mischief: float) -> None:
         """Hands a deal in until it is answered: by a third of all doubled, delayed or cut on the way."""
