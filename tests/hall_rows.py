@@ -13,6 +13,7 @@ import subprocess
 import sys
 import time
 from collections.abc import AsyncIterator, Callable, Coroutine
+from functools import partial
 from pathlib import Path
 from typing import Any
 
@@ -82,6 +83,11 @@ async def evening(room: Path) -> list[str]:
     return wrong
 
 
+def in_dispute(seat: Seat) -> bool:
+    """Whether a phone is shown a deal in dispute."""
+    return bool(seat.view["disputes"])
+
+
 async def differing(room: Path) -> list[str]:
     """What two phones enter differently is shown to both; withdrawn numbers stay so; the director puts a deal right."""
     hall, record, wrong = Served(room, 4, 1), Record(), []
@@ -104,9 +110,12 @@ async def differing(room: Path) -> list[str]:
             wrong.append(f"not both are told: {told}")
         for seat in (one, two):
             async with seat.moved:
-                await asyncio.wait_for(seat.moved.wait_for(lambda seat=seat: seat.view["disputes"]), 2)
+                await asyncio.wait_for(seat.moved.wait_for(partial(in_dispute, seat)), 2)
             if [it["line"] for it in seat.view["disputes"]] != [other]:
                 wrong.append(f"not shown to {seat.phone.who}: {seat.view}")
+        refused = await director(hall, "/closed", session=1, end_games=False)
+        if "Deals are in dispute at tables 1." not in refused.get("words", ""):
+            wrong.append(f"closed over a dispute: {refused}")
         hall.kill()
         hall.start()
         one.phone.hang_up()

@@ -175,13 +175,20 @@ def begin(draft: Draft, session: int) -> Told:
     return Told(200, {"session": session, "stage": Stage.BEGUN.value})
 
 
+def _at(words: str, books: list[Book]) -> list[str]:
+    """What is so at which tables, where it is so at some."""
+    return [f"{words} at tables {', '.join(str(book.key.table) for book in books)}."] if books else []
+
+
 def close(draft: Draft, bounds: Bounds, session: int, end_games: bool, sender: Sender) -> Told:
-    """No deal of the session is taken from a table any more. Games that go on are ended, or hinder it."""
+    """No deal of the session is taken from a table any more. Games that go on are ended, or hinder it; so do deals in dispute."""
     if draft.stage(session) is not Stage.BEGUN:
         raise Refused(Reason.NOT_NOW, "The session isn't open.")
-    going = [book for book in draft.state.books_of(session) if not draft.book(book.key).is_over]
-    if going and not end_games:
-        raise Refused(Reason.NOT_NOW, f"Games go on at tables {', '.join(str(book.key.table) for book in going)}.")
+    books = draft.state.books_of(session)
+    going = [book for book in books if not draft.book(book.key).is_over]
+    disputed = [book for book in books if draft.disputes_of(book.key)]
+    if (going or disputed) and not end_games:
+        raise Refused(Reason.NOT_NOW, " ".join([*_at("Games go on", going), *_at("Deals are in dispute", disputed)]))
     for book in going:
         _wanted(hand_in(draft, bounds, book.key, draft.book(book.key).next, "end", sender), Verdict.TAKEN, "end")
     draft.set_stage(session, Stage.CLOSED)

@@ -21,15 +21,15 @@ export class Entry {
     this.from = null;
     this.lists = { riichi: [], ready: [] };
     this.values = {};
+    this.#draw();
   }
 
-  /** Shows the taps for these players. */
+  /** Shows the taps for these players. Where they are there already nothing moves below a finger. */
   show(names) {
     if (names.join() !== this.names.join()) {
       this.names = names;
       this.empty();
     }
-    this.#draw();
   }
 
   #tapped() {
@@ -73,7 +73,7 @@ export class Entry {
   }
 
   #draw() {
-    const parts = [this.#choice("How", KINDS, (kind) => kind === this.kind, (kind) => (this.kind = kind), "kinds")];
+    const parts = [this.#choice("How", KINDS, (kind) => kind === this.kind, (kind) => this.#turn(kind), "kinds")];
     if (this.kind === "ron" || this.kind === "tsumo") {
       parts.push(this.#players("Who won", (name) => this.winners.includes(name), (name) => this.#win(name)));
       if (this.kind === "ron") {
@@ -91,6 +91,14 @@ export class Entry {
       parts.push(this.#several("Riichi", "riichi"));
     }
     fill(this.place, parts);
+  }
+
+  /** Another way for the deal to end; who draws the winning tile wins alone. */
+  #turn(kind) {
+    this.kind = kind;
+    if (kind === "tsumo") {
+      this.winners.splice(1);
+    }
   }
 
   #win(name) {

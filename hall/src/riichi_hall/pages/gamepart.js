@@ -130,6 +130,7 @@ export class GamePart {
 
   #show() {
     const { view } = this;
+    const isTyping = document.activeElement === this.line;
     this.place.hidden = false;
     fill(this.place, [
       made("h2", {}, `Table ${view.table}, session ${view.session}`),
@@ -140,5 +141,8 @@ export class GamePart {
       made("div", { class: "buttons" }, ...this.#ways().filter((it) => it !== null)),
       made("ol", { class: "rows" }, ...[...view.deals].reverse().map((deal) => this.#row(deal))),
     ]);
+    if (isTyping) {
+      this.line.focus({ preventScroll: true });
+    }
   }
 }

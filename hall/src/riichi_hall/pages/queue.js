@@ -6,7 +6,8 @@ export const STATE = { WAITS: "waits", HELD: "held" };
 /** The deals of one table that wait. */
 export class Queue {
   constructor(table, wire, changed) {
-    this.key = `hall.${table}`;
+    // (of this hall alone: another evening at the same address has other secrets)
+    this.key = `hall.${table}.${wire.secret.slice(-4)}`;
     this.wire = wire;
     this.changed = changed;
     this.path = `/api/tables/${table}`;

@@ -55,7 +55,9 @@ export function thousands(points) {
   if (points === null) {
     return "";
   }
-  return `${points > 0 ? "+" : ""}${(points / 1000).toFixed(1)}`;
+  const tenths = Math.trunc(Math.abs(points) / 100);
+  const sign = points > 0 ? "+" : points < 0 ? "-" : "";
+  return `${sign}${Math.trunc(tenths / 10)}.${tenths % 10}`;
 }
 
 /** The standings as a table. */

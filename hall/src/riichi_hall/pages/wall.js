@@ -34,6 +34,14 @@ function heard(name, told) {
   }
 }
 
+/** Where there is more than the screen has, it shows the next part of it, and behind the last one the first. */
+function turn() {
+  const { scrollHeight, clientHeight } = document.documentElement;
+  const isLast = scrollY + clientHeight >= scrollHeight - 1;
+  scrollTo({ top: isLast ? 0 : scrollY + 0.9 * clientHeight, behavior: "instant" });
+}
+
+setInterval(turn, 12000);
 addEventListener("hashchange", () => location.reload());
 wire.listen("/api/wall/events", heard, (there, refusal) => {
   by("link-state").textContent = there ? "" : (refusal?.message ?? "No network.");
