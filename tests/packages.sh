@@ -134,6 +134,7 @@ if [ -f "$wheel" ] && /usr/bin/python3 -m venv "$shelf/venv" > /dev/null 2>&1 &&
   told 'the wheel, keywords' 'all right' "$("$python" tests/keyword_answers.py "$shelf/lines" 2>&1)"
   told 'the wheel, arrays' 'all right' "$("$python" tests/array_answers.py 2>&1)"
   told 'the wheel, games' 'no difference' "$("$python" tests/game_answers.py 2>&1 | sed 's/.* deals, //')"
+  told "the wheel, messages to a table's book" '21 messages, 0 failed' "$("$python" tests/hall_answers.py 2>&1)"
   same 'the wheel, a text of games' games-wanted "$python" -c "$by_games"
   told 'its edges' 'all right' "$("$python" tests/module_edges.py "$shelf/lines" 2>&1)"
   told 'its licences' "$(unzip -l "$wheel" | grep -c 'licenses/.*LICENSE')" "$(tar -tf "$packages/riichi_desk-$version.crate" | grep -c LICENSE)"
