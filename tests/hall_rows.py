@@ -129,9 +129,15 @@ async def differing(room: Path) -> list[str]:
         await said(two, "deals", "refused", number=3, line=f"ron {names[1]} from {names[1]} 1.30")
         await said(two, "deals", "not-now", number=3, line=f"penalty {names[1]} 1000")
         await said(two, "deals", "taken", number=3, line="draw")
+        await said(one, "deals", "another", number=3, line=f"draw ready {names[0]}")
+        refused = await director(hall, "/corrections", session=1, table=1, number=2, line=first)
+        if refused.get("refused") != "not-now":
+            wrong.append(f"corrected below a dispute: {refused}")
         await said(two, "withdrawals", "not-last", number=2)
         await said(two, "withdrawals", "withdrawn", number=3)
         await said(one, "withdrawals", "gone-already", number=3)
+        if (await director(hall, "/games/1/1"))["disputes"]:
+            wrong.append("a withdrawn deal is in dispute")
     await director(hall, "/deals", session=1, table=1, number=None, line=f"penalty {names[0]} 2000")
     corrected = await director(hall, "/corrections", session=1, table=1, number=2, line=f"tsumo {names[3]} 2.30")
     text = next(hall.exported().glob("open/*.game")).read_text("utf-8").split("\n")[1:-1]

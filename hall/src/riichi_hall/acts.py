@@ -103,19 +103,24 @@ def _dispute(draft: Draft, bounds: Bounds, key: Key, judged: Judged, line: str, 
 
 
 def withdraw(draft: Draft, key: Key, number: int, sender: Sender) -> Told:
-    """The withdrawal of a deal."""
+    """The withdrawal of a deal. What was in dispute about it is so no more."""
     book = draft.book(key)
     judged = deciding.withdraw(book.text, number)
     _may(draft, book, judged, sender)
     if judged.verdict is Verdict.WITHDRAWN:
         book = draft.mark_withdrawn(book, judged, sender.who)
+        for dispute in draft.disputes_of(key):
+            if dispute.deal == number:
+                draft.drop_dispute(dispute)
     return told(judged, book)
 
 
 def correct(draft: Draft, bounds: Bounds, key: Key, number: int, line: str | None, sender: Sender) -> Told:
     """Puts a former deal right, or takes it out where there is no line: it and all behind it are withdrawn, and all but it handed in
-    again, with new numbers. All of that, or where the game refuses one of them, nothing."""
+    again, with new numbers. All of that, or where the game refuses one of them, nothing. Nothing is put right below a dispute."""
     book = draft.book(key)
+    if any(dispute.deal > number for dispute in draft.disputes_of(key)):
+        raise Refused(Reason.NOT_NOW, "A later deal is in dispute: that is settled first.")
     behind = [deal for deal in deciding.answered(book.text) if deal.number >= number and not deal.is_withdrawn]
     if not behind or behind[0].number != number:
         raise Refused(Reason.NO_DEAL)

@@ -78,14 +78,20 @@ export class Queue {
     this.hurry();
   }
 
-  /** A deal in dispute is done with as soon as the dispute is: those behind it move up where it was taken in the place of the other. */
+  /** A deal in dispute is done with as soon as the dispute is: those behind it move up where it was taken in the place of the other.
+   * Where neither stands there any more, whoever entered it says what becomes of it. */
   #settled(first) {
     if (this.view.session !== first.session || this.view.disputes.some((it) => it.dispute === first.dispute)) {
       return;
     }
-    const wasTaken = this.view.deals.find((deal) => deal.number === first.number)?.withdrawn;
-    this.waiting.shift();
-    if (wasTaken) {
+    const isGone = this.view.deals.find((deal) => deal.number === first.number)?.withdrawn;
+    const isThere = this.view.deals.some((deal) => deal.number > first.number && deal.line === first.line);
+    if (isGone && !isThere) {
+      first.verdict = "gone";
+    } else {
+      this.waiting.shift();
+    }
+    if (isGone && isThere) {
       this.renumber();
     }
     this.#changed();
