@@ -67,7 +67,10 @@ async def evening(room: Path) -> list[str]:
         await asyncio.sleep(0.2)
         wrong += [f"a deal was seen after {latest(record, pair):.1f} s" for pair in pairs if latest(record, pair) > 2]
     wrong += compared(hall, record)
-    told = (await director(hall, ""))["standings"]["players"]
+    view = await director(hall, "")
+    if not all(time.time() - 60 < it["begun"] < time.time() for it in view["sessions"]):
+        wrong.append(f"sessions that began at another time: {view['sessions']}")
+    told = view["standings"]["players"]
     names = sorted(map(str, hall.exported().glob("*.game")))
     asked = subprocess.run([os.environ["RIICHI_DESK_PROGRAM"], "standings", "--json", *names], capture_output=True, text=True, check=True)
     if [json.loads(line) for line in asked.stdout.split("\n")[:-1]] != told or len(told) != 16:

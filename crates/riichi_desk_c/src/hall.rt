@@ -11,6 +11,7 @@ use crate::placing::place;
 use crate::rules_numbered;
 use desk_hall::{Asked, Judged, hand_in, withdraw};
 use desk_hall_games::{GamePosition, JudgedRow, open_book, push_answer};
+use riichi_hand::Rules;
 use riichi_text::AnswerText;
 
 /// Says what a line comes to that is handed in at a number, by the text of the table's book: the bytes that the answer takes. They are
@@ -57,22 +58,41 @@ fn tell(
     ensures { spec.TellsHall rules book.now number (request_in asked.entry)
         room.old room.new result row.new }
 {
-    let Some(rules) = rules_numbered(rules) else {
-        *row = JudgedRow::of_nothing();
-        return place(b"refused rules", room);
+    let Some(given) = rules_numbered(rules) else {
+        return tell_nothing(b"refused rules", room, row);
     };
-    let Some((start, deals)) = open_book(rules, book) else {
-        *row = JudgedRow::of_nothing();
-        return place(b"refused book", room);
+    tell_of_book(given, book, number, asked, room, row)
+}
+
+fn tell_of_book(
+    given: Rules,
+    book: &[u8],
+    number: u64,
+    asked: Asked<'_>,
+    room: &mut [u8],
+    row: &mut JudgedRow,
+) -> usize
+    ensures { spec.TellsBook given book.now number (request_in asked.entry)
+        room.old room.new result row.new }
+{
+    let Some((start, deals)) = open_book(given, book) else {
+        return tell_nothing(b"refused book", room, row);
     };
     let Some(judged) = judged_by(&start, deals, number, asked) else {
-        *row = JudgedRow::of_nothing();
-        return place(b"refused book", room);
+        return tell_nothing(b"refused book", room, row);
     };
     *row = JudgedRow::of(&judged, book.len() - deals.len());
     let mut text = AnswerText::new();
     push_answer(&mut text, number, asked, &judged);
     place(text.as_str().as_bytes(), room)
+}
+
+/// Nothing is decided, and these words say why.
+fn tell_nothing(words: &[u8], room: &mut [u8], row: &mut JudgedRow) -> usize
+    ensures { spec.TellsNone words.now room.old room.new result row.new }
+{
+    *row = JudgedRow::of_nothing();
+    place(words, room)
 }
 
 fn judged_by(

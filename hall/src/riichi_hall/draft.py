@@ -20,6 +20,7 @@ class Draft:
     statements: list[Statement] = field(default_factory=list)
     books: dict[Key, Book] = field(default_factory=dict)
     sessions: dict[int, Stage] = field(default_factory=dict)
+    begun: dict[int, float] = field(default_factory=dict)
     disputes: dict[Key, tuple[Dispute, ...]] = field(default_factory=dict)
     last_dispute: int = 0
     news: dict[Key, dict[int, dict[str, Any]]] = field(default_factory=dict)
@@ -94,9 +95,15 @@ class Draft:
 
     def set_stage(self, session: int, stage: Stage) -> None:
         """How far a session is from now on."""
-        words = "INSERT INTO session VALUES (?, ?) ON CONFLICT (number) DO UPDATE SET stage = excluded.stage"
-        self.statements.append((words, (session, stage.value)))
+        words = (
+            "INSERT INTO session (number, stage, begun) VALUES (?, ?, ?)"
+            " ON CONFLICT (number) DO UPDATE SET stage = excluded.stage, begun = coalesce(begun, excluded.begun)"
+        )
+        begun = self.now if stage is Stage.BEGUN else None
+        self.statements.append((words, (session, stage.value, begun)))
         self.sessions[session] = stage
+        if begun is not None:
+            self.begun[session] = begun
 
     def set_game(self, key: Key, line: str) -> None:
         """A game that is drawn, in the place of another one that was."""
@@ -109,5 +116,6 @@ class Draft:
         """Changes the state as the draft says."""
         state.books.update(self.books)
         state.sessions.update(self.sessions)
+        state.begun.update(self.begun)
         state.disputes.update(self.disputes)
         state.last_dispute = max(state.last_dispute, self.last_dispute)

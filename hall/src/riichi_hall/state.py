@@ -77,13 +77,15 @@ class State:
     """All that changes in a hall. Whoever reads one sees what lies on the disk; the next one takes its place at once."""
 
     sessions: dict[int, Stage] = field(default_factory=dict)
+    begun: dict[int, float] = field(default_factory=dict)
+    """When a session began, in seconds since 1970."""
     books: dict[Key, Book] = field(default_factory=dict)
     disputes: dict[Key, tuple[Dispute, ...]] = field(default_factory=dict)
     last_dispute: int = 0
 
     def copy(self) -> State:
         """Another state of the same objects."""
-        return State(dict(self.sessions), dict(self.books), dict(self.disputes), self.last_dispute)
+        return State(dict(self.sessions), dict(self.begun), dict(self.books), dict(self.disputes), self.last_dispute)
 
     def open_session(self) -> int | None:
         """The session that is begun and not closed."""

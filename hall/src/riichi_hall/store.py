@@ -19,7 +19,7 @@ VERSION = "1"
 SCHEMA = """
 CREATE TABLE hall (name TEXT PRIMARY KEY, value TEXT NOT NULL) STRICT, WITHOUT ROWID;
 CREATE TABLE place (number INTEGER PRIMARY KEY, secret TEXT NOT NULL) STRICT;
-CREATE TABLE session (number INTEGER PRIMARY KEY, stage TEXT NOT NULL) STRICT;
+CREATE TABLE session (number INTEGER PRIMARY KEY, stage TEXT NOT NULL, begun REAL) STRICT;
 CREATE TABLE game (session INTEGER, place INTEGER, line TEXT NOT NULL, PRIMARY KEY (session, place)) STRICT, WITHOUT ROWID;
 CREATE TABLE deal (session INTEGER, place INTEGER, number INTEGER, line TEXT NOT NULL, who TEXT NOT NULL, came REAL NOT NULL,
   withdrawn_by TEXT, withdrawn_at REAL, PRIMARY KEY (session, place, number)) STRICT, WITHOUT ROWID;
@@ -80,7 +80,8 @@ class Store:
             )
         ]
         rows += [("INSERT INTO place VALUES (?, ?)", (table, new_secret())) for table in sorted({key.table for key, _ in drawn})]
-        rows += [("INSERT INTO session VALUES (?, ?)", (it, Stage.PAIRED.value)) for it in sorted({key.session for key, _ in drawn})]
+        sessions = sorted({key.session for key, _ in drawn})
+        rows += [("INSERT INTO session (number, stage) VALUES (?, ?)", (it, Stage.PAIRED.value)) for it in sessions]
         rows += [("INSERT INTO game VALUES (?, ?, ?)", (*key, line)) for key, line in drawn]
         made: list[Statement] = [(words, ()) for words in SCHEMA.split(";") if words.strip()]
         self.keep([made, rows])
@@ -122,8 +123,10 @@ class Store:
 
     def _read(self) -> State:
         state = State()
-        for number, stage in self._connection.execute("SELECT number, stage FROM session ORDER BY number"):
+        for number, stage, begun in self._connection.execute("SELECT number, stage, begun FROM session ORDER BY number"):
             state.sessions[number] = Stage(stage)
+            if begun is not None:
+                state.begun[number] = begun
         for session, place, line in self._connection.execute("SELECT session, place, line FROM game ORDER BY session, place"):
             state.books[Key(session, place)] = self._book(Key(session, place), line)
         asked = "SELECT number, session, place, deal, line, who, text FROM dispute WHERE dropped = 0 ORDER BY number"

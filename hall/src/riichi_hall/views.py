@@ -51,8 +51,10 @@ def row(state: State, book: Book) -> dict[str, Any]:
 
 
 def sessions(state: State) -> list[dict[str, Any]]:
-    """The sessions and how far each is."""
-    return [{"session": number, "stage": state.sessions[number].value} for number in sorted(state.sessions)]
+    """The sessions, how far each is, and when it began."""
+    return [
+        {"session": number, "stage": state.sessions[number].value, "begun": state.begun.get(number)} for number in sorted(state.sessions)
+    ]
 
 
 def hall(state: State) -> dict[str, Any]:

@@ -1,7 +1,7 @@
 // The director's page: sessions, tables, one game at a time, standings, links.
 import { button, by, code, fill, made } from "./elements.js";
 import { GamePart } from "./gamepart.js";
-import { counted, ranking, standsAt } from "./told.js";
+import { counted, ranking, since, standsAt } from "./told.js";
 import { Wire } from "./wire.js";
 
 const wire = new Wire(decodeURIComponent(location.hash.slice(1)));
@@ -61,7 +61,7 @@ function showSessions() {
       "li",
       {},
       made("span", { class: "number" }, String(it.session)),
-      made("span", { class: "line" }, it.stage),
+      made("span", { class: "line" }, it.stage === "begun" ? `begun ${since(it.begun)}` : it.stage),
       null,
       made("div", { class: "under buttons" }, ...ways(it)),
     ),
@@ -70,12 +70,6 @@ function showSessions() {
   const isOver = hall.sessions.every((it) => it.stage === "closed");
   const more = isOver ? made("li", {}, twice("One session more, by standings", "more", () => ask("paired", { session, by_standings: true }))) : null;
   fill(by("sessions"), [...rows, more]);
-}
-
-/** How long ago a deal came, in words. */
-function since(came) {
-  const minutes = came === null ? null : Math.floor((Date.now() / 1000 - came) / 60);
-  return minutes === null ? "no deal yet" : minutes < 1 ? "just now" : `${minutes} min ago`;
 }
 
 function showTables() {
@@ -88,7 +82,7 @@ function showTables() {
         "li",
         {},
         made("span", { class: "number" }, String(row.table)),
-        made("span", { class: "line" }, `${standsAt(row)}; ${counted(row.deals, "deal")}, ${since(row.came)}`),
+        made("span", { class: "line" }, `${standsAt(row)}; ${counted(row.deals, "deal")}, ${row.came === null ? "no deal yet" : since(row.came)}`),
         button("Open", () => game.open(row.session, row.table)),
         made("span", { class: "under quiet" }, row.names.join(", ")),
         row.disputes ? made("span", { class: "under fault" }, `${row.disputes} in dispute`) : null,

@@ -8,6 +8,12 @@ export function counted(number, thing) {
   return `${number} ${thing}${String(number) === "1" ? "" : "s"}`;
 }
 
+/** How long ago that was, in seconds since 1970, in words. */
+export function since(then) {
+  const minutes = Math.floor((Date.now() / 1000 - then) / 60);
+  return minutes < 1 ? "just now" : `${minutes} min ago`;
+}
+
 /** The four numbers behind a word of an answer, or null. */
 function four(text, word) {
   const words = text.split(" ");

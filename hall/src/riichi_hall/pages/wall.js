@@ -1,6 +1,6 @@
 // The page for a projector: standings, how far the tables are, and who sits where next. It can only look.
 import { by, fill, made } from "./elements.js";
-import { counted, ranking, standsAt } from "./told.js";
+import { counted, ranking, since, standsAt } from "./told.js";
 import { Wire } from "./wire.js";
 
 const wire = new Wire(decodeURIComponent(location.hash.slice(1)));
@@ -11,8 +11,9 @@ function line(number, words, under) {
 }
 
 function show() {
-  const stage = hall.sessions.find((it) => it.session === hall.shown)?.stage;
-  by("title").textContent = stage === "closed" ? `Standings after session ${hall.shown}` : `Session ${hall.shown}`;
+  const { stage, begun } = hall.sessions.find((it) => it.session === hall.shown) ?? {};
+  const words = { closed: `Standings after session ${hall.shown}`, begun: `Session ${hall.shown}, begun ${since(begun)}` };
+  by("title").textContent = words[stage] ?? `Session ${hall.shown}`;
   by("tables-title").textContent = `Tables, session ${hall.shown}`;
   fill(by("tables"), hall.tables.map((row) => line(row.table, row.names.join(", "), `${standsAt(row)}, ${counted(row.deals, "deal")}`)));
   const shows = hall.following !== null && stage !== "begun" && hall.following !== hall.shown;
@@ -42,6 +43,7 @@ function turn() {
 }
 
 setInterval(turn, 12000);
+setInterval(() => hall && show(), 30000);
 addEventListener("hashchange", () => location.reload());
 wire.listen("/api/wall/events", heard, (there, refusal) => {
   by("link-state").textContent = there ? "" : (refusal?.message ?? "No network.");
