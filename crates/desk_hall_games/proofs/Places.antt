@@ -1,6 +1,5 @@
 -- Places in a book's text.
-use Rattle.std.proofs.Common.{◌≡◌, ℕ, zero, suc, ◌+◌, ◌-◌, ◌<◌, ◌≤◌, List, [], ◌∷◌, Bool, Option, ap, length, length-append, take, arith}
-use Rattle.desk_hall.specs.Books.{Book}
+use Rattle.std.proofs.Common.{ℕ, zero, suc, ◌-◌, ◌≤◌, List, [], ◌∷◌, Bool, Option, ap, length, length-append, take, arith}
 use Rattle.desk_hall.specs.Deals.{Deal, line_of, ended, deals_text}
 use Rattle.desk_hall.specs.Decided.{Request, IsJudged}
 use Rattle.desk_hall.specs.declared.judged.Judged.{Judged}
