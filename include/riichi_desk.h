@@ -629,6 +629,46 @@ uint32_t riichi_game_base(uint32_t rules, uint32_t by, uint32_t han, uint32_t fu
 size_t riichi_game_lines(
     uint32_t rules, const uint8_t *text, size_t text_len, size_t from, uint8_t *room, size_t room_len, size_t *taken);
 
+/* What a message to a table's book comes to (docs/HALL.md): 24 bytes. */
+struct riichi_judged {
+    uint64_t next;    /* The number that the book gave to the next deal before the message. */
+    uint64_t place;   /* Where in the book's text the deal of the number begins, or would. */
+    uint32_t verdict; /* RIICHI_HALL_TAKEN and so on; RIICHI_HALL_NO_BOOK, and the others 0, where the text is no book's. */
+    uint32_t nothing; /* 0. */
+};
+
+#define RIICHI_HALL_NO_BOOK 0
+#define RIICHI_HALL_TAKEN 1
+#define RIICHI_HALL_AGAIN 2
+#define RIICHI_HALL_ANOTHER 3
+#define RIICHI_HALL_EARLY 4
+#define RIICHI_HALL_REFUSED 5
+#define RIICHI_HALL_GONE 6
+#define RIICHI_HALL_WITHDRAWN 7
+#define RIICHI_HALL_GONE_ALREADY 8
+#define RIICHI_HALL_NOT_LAST 9
+#define RIICHI_HALL_NO_DEAL 10
+
+/* Says what a line comes to that is handed in as the deal of a number, by the text of the table's book: the line `game`, and a line a
+ * deal behind it, each ended by a line feed, a withdrawn one with `# withdrawn ` before it. The library keeps nothing: the caller keeps
+ * the book, and where the verdict is RIICHI_HALL_TAKEN puts the line and a line feed into its text at `place`.
+ *
+ *   rules     How hands are valued in a game that names no rules. Under a number that is none of any rules the answer is
+ *             `refused rules`.
+ *   number    From 1 on.
+ *   room      The answer is put at its start if all of it fits there; RIICHI_MOST_ANSWER bytes always do. Where the text is no book's
+ *             it is `refused book`.
+ *   judged    Is set in any case.
+ *
+ * Returns how many bytes the answer takes. */
+size_t riichi_hall_hand_in(uint32_t rules, const uint8_t *book, size_t book_len, uint64_t number, const uint8_t *line, size_t line_len,
+    uint8_t *room, size_t room_len, struct riichi_judged *judged);
+
+/* Says so what the withdrawal of a number does. Where the verdict is RIICHI_HALL_WITHDRAWN the caller puts `# withdrawn ` into the text
+ * at `place`. */
+size_t riichi_hall_withdraw(uint32_t rules, const uint8_t *book, size_t book_len, uint64_t number, uint8_t *room, size_t room_len,
+    struct riichi_judged *judged);
+
 /* The name and version, such as `riichi_desk 0.1.0`, into the room as above. Returns how many bytes it takes. */
 size_t riichi_version(uint8_t *room, size_t room_len);
 

@@ -123,6 +123,8 @@ cc -O1 -g -fsanitize=address,undefined -Iinclude tests/fuzz_lines.c "$archive" -
 told 'texts and rows at random' '256 texts, no difference' "$("$shelf/rows" 0 1 "$shelf/few" 2>&1)"
 cc -O1 -g -fsanitize=address,undefined -Iinclude tests/fuzz_games.c "$archive" -o "$shelf/games-tried"
 told 'texts of games at random' '256 texts, no difference' "$("$shelf/games-tried" 0 1 "$shelf/games" 2>&1)"
+cc -O1 -g -fsanitize=address,undefined -Iinclude tests/fuzz_hall.c "$archive" -o "$shelf/hall-tried"
+told "messages to a table's book at random" '256 books, no difference' "$("$shelf/hall-tried" 0 1 examples/games/evening.game 2>&1)"
 
 # the wheel, in a new environment
 wheel=$(echo "$packages"/riichi_desk-*x86_64.whl)
@@ -134,6 +136,7 @@ if [ -f "$wheel" ] && /usr/bin/python3 -m venv "$shelf/venv" > /dev/null 2>&1 &&
   told 'the wheel, keywords' 'all right' "$("$python" tests/keyword_answers.py "$shelf/lines" 2>&1)"
   told 'the wheel, arrays' 'all right' "$("$python" tests/array_answers.py 2>&1)"
   told 'the wheel, games' 'no difference' "$("$python" tests/game_answers.py 2>&1 | sed 's/.* deals, //')"
+  told "the wheel, messages to a table's book" '21 messages, 0 failed' "$("$python" tests/hall_answers.py 2>&1)"
   same 'the wheel, a text of games' games-wanted "$python" -c "$by_games"
   told 'its edges' 'all right' "$("$python" tests/module_edges.py "$shelf/lines" 2>&1)"
   told 'its licences' "$(unzip -l "$wheel" | grep -c 'licenses/.*LICENSE')" "$(tar -tf "$packages/riichi_desk-$version.crate" | grep -c LICENSE)"
@@ -215,6 +218,8 @@ if [ -f "$portable" ]; then
   told 'one file of C: texts and rows at random' '256 texts, no difference' "$("$shelf/rows-portable" 0 1 "$shelf/few" 2>&1)"
   cc -O1 -Iinclude tests/fuzz_games.c "$shelf/portable.o" -o "$shelf/games-tried-portable"
   told 'one file of C: texts of games at random' '256 texts, no difference' "$("$shelf/games-tried-portable" 0 1 "$shelf/games" 2>&1)"
+  cc -O1 -Iinclude tests/fuzz_hall.c "$shelf/portable.o" -o "$shelf/hall-tried-portable"
+  told "one file of C: messages to a table's book at random" '256 books, no difference' "$("$shelf/hall-tried-portable" 0 1 examples/games/evening.game 2>&1)"
   cc -O1 -Iinclude tests/games.c "$shelf/portable.o" -o "$shelf/games-portable"
   told 'one file of C: games at random' 'no difference' "$("$shelf/games-portable" 7 20 2>&1 | sed 's/.* outcomes, //')"
   cc -O1 -Iinclude tests/game_lines.c "$shelf/portable.o" -o "$shelf/game-lines-portable"

@@ -38,6 +38,8 @@ NOT_RUN = {
     "./target/release/bench": "is built in bench/, which the gate doesn't measure",
     "install -D": "writes to /usr/local",
     "@only ": "is of the archives for other systems: tests/packages.sh builds it",
+    "docs/HALL.md": "tests/hall.sh plays its evening",
+    "hall/README.md": "tests/hall.sh plays its evening",
     "docs/SCALE.md": "tests/cores.sh and tests/machines.sh run its recipes",
 }
 TOOLS = ("cc", "cargo", "rustc", "npm", "npx", "node", "pkg-config")

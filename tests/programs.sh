@@ -63,6 +63,7 @@ told 'a text of games by pieces' 'all right' "$("$made/game_lines" examples/game
 # games_by_python: answers a text of games from standard input
 games_by_python() { by_python -c 'import riichi_desk, sys; sys.stdout.buffer.write(riichi_desk.game(sys.stdin.buffer.read()).encode())'; }
 told 'a text of games by Python' "$(sha256sum < examples/games/evening.answers)" "$(games_by_python < examples/games/evening.game | sha256sum)"
+told "messages to a table's book by Python" '21 messages, 0 failed' "$(by_python tests/hall_answers.py 2>&1)"
 told 'games by Python' 'no difference' "$(by_python tests/game_answers.py 2>&1 | sed 's/.* deals, //')"
 told 'what the library asks of the C library' 'memcpy memmove memset' "$(nm -u "$archive" | sed -n 's/^ *U //p' | sort -u | xargs)"
 

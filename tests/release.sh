@@ -3,10 +3,10 @@
 
 shop=$scripts/shop
 mkdir -p "$shop/docs" "$shop/bin"
-cp -r "$tree"/{sources,desk,crates.txt,crates} release packages packaging examples include web LICENSE "$shop"
+cp -r "$tree"/{sources,desk,crates.txt,crates} release packages packaging hall examples include web SECURITY.md LICENSE "$shop"
 cp "$archive" "$shop/bin"
 echo page > "$shop/bin/desk.html"
-cp docs/NOTATION.md docs/RULES.md docs/GAME.md docs/{answer,game}.schema.json "$shop/docs"
+cp docs/NOTATION.md docs/RULES.md docs/GAME.md docs/HALL.md docs/{answer,game}.schema.json "$shop/docs"
 cp "$program" "$shop/bin/riichi_desk"
 printf 'proved with kit-0, logic 0123\nsources %s\nprogram %s\n' "$sum" "$(sha256sum < "$program" | cut -d' ' -f1)" > "$shop/bin/riichi_desk.proved"
 version=$("$program" --version | sed 's/^riichi_desk //')
@@ -14,7 +14,7 @@ name=riichi_desk-$version-linux-x86_64
 # stand-ins for a licence of the kit, and for what ./packages builds
 mkdir -p "$kit/rattle/arrayvec" && echo licence > "$kit/rattle/arrayvec/LICENSE-APACHE"
 mkdir "$shop/bin/packages"
-for package in "riichi_desk-$version"{.tgz,.crate,-py3-none-manylinux_2_17_x86_64.whl} riichi_desk_portable.c riichi_desk-{windows-x86_64.exe,linux-arm64} libriichi_desk_c-{windows-x86_64,linux-arm64}.a; do
+for package in "riichi_desk-$version"{.tgz,.crate,-py3-none-manylinux_2_17_x86_64.whl} "riichi_hall-$version-py3-none-any.whl" riichi_desk_portable.c riichi_desk-{windows-x86_64.exe,linux-arm64} libriichi_desk_c-{windows-x86_64,linux-arm64}.a; do
   echo "$package" > "$shop/bin/packages/$package"
 done
 debs=
@@ -43,7 +43,7 @@ told 'what is in the archive for Windows' 'GAME.md LICENSE NOTATION.md README.md
 told 'how it is called there' 3 "$(unzip -p "$shop/releases/riichi_desk-$version-windows-x86_64.zip" '*/README.md' | grep -cF '$ .\riichi_desk.exe ')"
 tar -C "$scripts" -xf "$shop/releases/$name.tar.gz"
 unpacked=$scripts/$name
-told 'what is in the release' 'GAME.md LICENSE NOTATION.md README.md RULES.md SHA256SUMS answer.schema.json completions desk.html examples game.schema.json library libriichi_desk_c.a licences packages riichi_desk riichi_desk.1 riichi_desk.h riichi_desk.proved' \
+told 'what is in the release' 'GAME.md HALL.md LICENSE NOTATION.md README.md RULES.md SECURITY.md SHA256SUMS answer.schema.json completions desk.html examples game.schema.json library libriichi_desk_c.a licences packages riichi_desk riichi_desk.1 riichi_desk.h riichi_desk.proved' \
   "$(cd "$unpacked" && echo *)"
 told 'its files are whole' 0 "$(cd "$unpacked" && sha256sum --quiet -c SHA256SUMS > /dev/null; echo $?)"
 # printed WORD: the commands in the block of its README that has WORD; they answer in the release's folder

@@ -92,6 +92,34 @@ uint32_t riichi_game_base(uint32_t rules, uint32_t by, uint32_t han, uint32_t fu
     return Z_deskZ_riichi_game_base(&module, rules, by, han, fu);
 }
 
+enum { MOST_BOOK = MOST_GAMES - PAGE, LINE = GIVEN + MOST_BOOK };
+
+/* A book that is longer than its room is none here. */
+static size_t tell_judged(uint8_t *own, size_t needed, uint8_t *room, size_t room_len, struct riichi_judged *judged) {
+    memcpy(judged, own + TAKEN - 64, sizeof *judged);
+    if (needed <= room_len) memcpy(room, own + TOLD, needed);
+    return needed;
+}
+
+size_t riichi_hall_hand_in(uint32_t rules, const uint8_t *book, size_t book_len, uint64_t number, const uint8_t *line, size_t line_len,
+    uint8_t *room, size_t room_len, struct riichi_judged *judged) {
+    uint8_t *own = memory();
+    size_t given = book_len <= MOST_BOOK ? book_len : 0, words = lesser(line_len, MOST_LINE);
+    memcpy(own + GIVEN, book, given);
+    memcpy(own + LINE, line, words);
+    size_t needed = (size_t)Z_deskZ_riichi_hall_hand_in(&module, rules, GIVEN, given, number, LINE, words, TOLD, ROOM - 64, TAKEN - 64);
+    return tell_judged(own, needed, room, room_len, judged);
+}
+
+size_t riichi_hall_withdraw(uint32_t rules, const uint8_t *book, size_t book_len, uint64_t number, uint8_t *room, size_t room_len,
+    struct riichi_judged *judged) {
+    uint8_t *own = memory();
+    size_t given = book_len <= MOST_BOOK ? book_len : 0;
+    memcpy(own + GIVEN, book, given);
+    size_t needed = (size_t)Z_deskZ_riichi_hall_withdraw(&module, rules, GIVEN, given, number, TOLD, ROOM - 64, TAKEN - 64);
+    return tell_judged(own, needed, room, room_len, judged);
+}
+
 /* (the whole text by each call: one that is longer than its room has no answer here) */
 size_t riichi_game_lines(
     uint32_t rules, const uint8_t *text, size_t text_len, size_t from, uint8_t *room, size_t room_len, size_t *taken) {

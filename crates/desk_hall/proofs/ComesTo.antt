@@ -1,71 +1,90 @@
 -- What is so where a message comes to something.
-use Rattle.std.proofs.Common.{◌≡◌, ℕ, suc, ◌-◌, List, Bool, true, false, nat_eq, nat_lt, Option, None, Some, refl, sym, ap, ◌∙◌, length, arith, inl, inr}
+use Rattle.std.proofs.Common.{◌≡◌, ℕ, suc, ◌-◌, List, Bool, true, false, nat_eq, nat_lt, Option, None, Some, refl, sym, subst, ap, ◌∙◌, length, arith, inl, inr}
 use Rattle.std.specs.Prelude.{slice_get, if◌then◌else◌}
 use Rattle.std.proofs.lemmas.Option.{slice_get_cases}
-use Rattle.desk_hall.specs.Books.{Book, front_of, whole, deal_at, next_number}
+use Rattle.desk_hall.specs.Books.{Book, front_before, whole, deal_at, next_number}
 use Rattle.desk_hall.specs.Deals.{Deal, can_stand}
-use Rattle.desk_hall.specs.Decided.{Request, HandsIn, Withdraws, Seen, seen_at, handed_in, taken, at_live, at_number, line_decided, withdrawn_at, withdrawal_decided}
+use Rattle.desk_hall.specs.Decided.{Request, HandsIn, Withdraws, seen_at, handed_in, at_next, at_live, at_number, line_decided, withdrawn_at, withdrawal_decided}
 use Rattle.desk_hall.specs.Histories.{Sent, comes_to}
 use Rattle.desk_hall.proofs.Numbers.{not_zero, not_less}
 use Rattle.desk_hall.specs.declared.decision.Decision.{Decision}
-use Rattle.desk_hall.specs.declared.decision.Decision.TheVariants.{Taken, Again, Another, Early, Gone, Withdrawn, GoneAlready, NotLast, NoDeal}
+use Rattle.desk_hall.specs.declared.decision.Decision.TheVariants.{Taken, Again, Another, Early, Refused, Gone, Withdrawn, GoneAlready, NotLast, NoDeal}
 
--- ---- a line that is taken
+-- A message that is taken hands in a line at the next number, which can stand in a book, and brings the game so far.
+pub record IsTaken {P : Type 0} (reads : P → List ℕ → Option P) (book : Book P) (sent : Sent) (position : P) : Type 0 where
+  pub line : List ℕ
+  pub hands_in : sent.request ≡ HandsIn line
+  pub next : sent.number ≡ next_number book
+  pub can : can_stand line ≡ true
+  pub read : reads (front_before reads book sent.number).position line ≡ Some position
 
-taken_is : {P : Type 0} (read : Option P) (position : P) → taken read ≡ Taken position → read ≡ Some position
-taken_is None position h = absurd (cc)
-taken_is (Some other) position h = cc
+-- A message that is answered as before has the number of a live deal, which brings the game so far.
+pub record IsAgain {P : Type 0} (reads : P → List ℕ → Option P) (book : Book P) (number : ℕ) (position : P) : Type 0 where
+  pub deal : Deal
+  pub deal_is : deal_at book number ≡ Some deal
+  pub live : deal.is_withdrawn ≡ false
+  pub read : reads (front_before reads book number).position deal.line ≡ Some position
 
-beside_untaken : {P : Type 0} (is : Bool) (first other position : P) → (if is then Again first else Another first other) ≡ Taken position → ⊥
-beside_untaken true first other position h = absurd (cc)
-beside_untaken false first other position h = absurd (cc)
+-- A message that is answered so withdraws the last live deal.
+pub record IsWithdrawn {P : Type 0} (reads : P → List ℕ → Option P) (book : Book P) (number : ℕ) : Type 0 where
+  pub some : nat_eq number 0 ≡ false
+  pub deal : Deal
+  pub deal_is : deal_at book number ≡ Some deal
+  pub live : deal.is_withdrawn ≡ false
+  pub last : nat_eq (whole reads book).last_live number ≡ true
 
-live_untaken : {P : Type 0} (same : P → P → Bool) (first other : Option P) (position : P) → at_live same first other ≡ Taken position → ⊥
-live_untaken same None other position h = absurd (cc)
-live_untaken same (Some first) None position h = absurd (cc)
-live_untaken same (Some first) (Some other) position h = beside_untaken (same first other) first other position h
+-- the book stays, and the deal of the number isn't told again
+abbrev is_idle : {P : Type 0} → Decision P → Bool
+is_idle (Taken position) = false
+is_idle (Again position) = false
+is_idle (Another first other) = true
+is_idle Early = true
+is_idle Refused = true
+is_idle Gone = true
+is_idle Withdrawn = false
+is_idle GoneAlready = true
+is_idle NotLast = true
+is_idle NoDeal = true
 
-deal_untaken : {P : Type 0} (same : P → P → Bool) (gone : Bool) (first other : Option P) (position : P) → (if gone then Gone else at_live same first other) ≡ Taken position → ⊥
-deal_untaken same true first other position h = absurd (cc)
-deal_untaken same false first other position h = live_untaken same first other position h
+-- What is so where a message comes to a decision.
+data Comes {P : Type 0} (reads : P → List ℕ → Option P) (book : Book P) (sent : Sent) (decision : Decision P) : Type 0 where
+  Takes : (position : P) → decision ≡ Taken position → IsTaken reads book sent position → Comes reads book sent decision
+  Repeats : (position : P) → decision ≡ Again position → IsAgain reads book sent.number position → Comes reads book sent decision
+  Removes : decision ≡ Withdrawn → IsWithdrawn reads book sent.number → Comes reads book sent decision
+  Idles : is_idle decision ≡ true → Comes reads book sent decision
 
-number_taken : {P : Type 0} (reads : P → List ℕ → Option P) (same : P → P → Bool) (front : P) (deal : Option Deal) (line : List ℕ) (position : P) → at_number reads same front deal line ≡ Taken position
-    → (deal ≡ None) × (handed_in reads front line ≡ Some position)
-number_taken reads same front None line position h = (refl, taken_is (handed_in reads front line) position h)
-number_taken reads same front (Some deal) line position h =
-    absurd (deal_untaken same deal.is_withdrawn (reads front deal.line) (handed_in reads front line) position h)
+-- ---- a line that is handed in
 
-tests_taken : {P : Type 0} (zero beyond : Bool) (decision : Decision P) (position : P) → (if zero then NoDeal else if beyond then Early else decision) ≡ Taken position
-    → (zero ≡ false) × (beyond ≡ false) × (decision ≡ Taken position)
-tests_taken true beyond decision position h = absurd (cc)
-tests_taken false true decision position h = absurd (cc)
-tests_taken false false decision position h = (refl, refl, h)
+same_comes : {P : Type 0} (reads : P → List ℕ → Option P) (same : P → P → Bool) (book : Book P) (sent : Sent) (is : Bool) (first other : P) → IsAgain reads book sent.number first → Comes reads book sent (if is then Again first else Another first other)
+same_comes reads same book sent true first other again = Repeats first refl again
+same_comes reads same book sent false first other again = Idles refl
 
-line_taken : {P : Type 0} (reads : P → List ℕ → Option P) (same : P → P → Bool) (seen : Seen P) (number : ℕ) (line : List ℕ) (position : P) → line_decided reads same seen number line ≡ Taken position
-    → (nat_eq number 0 ≡ false) × (nat_lt seen.next number ≡ false) × (seen.deal ≡ None) × (handed_in reads seen.front line ≡ Some position)
-unfolding line_decided
-line_taken reads same seen number line position h =
-    let tests = tests_taken (nat_eq number 0) (nat_lt seen.next number) (at_number reads same seen.front seen.deal line) position h in
-    let at = number_taken reads same seen.front seen.deal line position tests.2 in
-    (tests.0, tests.1, at.0, at.1)
+live_comes : {P : Type 0} (reads : P → List ℕ → Option P) (same : P → P → Bool) (book : Book P) (sent : Sent) (first other : Option P) → ((position : P) → first ≡ Some position → IsAgain reads book sent.number position) → Comes reads book sent (at_live same first other)
+live_comes reads same book sent None other again = Idles refl
+live_comes reads same book sent (Some first) None again = Idles refl
+live_comes reads same book sent (Some first) (Some other) again = same_comes reads same book sent (same first other) first other (again first refl)
 
-gone_untaken : {P : Type 0} (gone last : Bool) (position : P) → (if gone then GoneAlready else if last then Withdrawn else NotLast) ≡ Taken position → ⊥
-gone_untaken true last position h = absurd (cc)
-gone_untaken false true position h = absurd (cc)
-gone_untaken false false position h = absurd (cc)
+deal_comes : {P : Type 0} (reads : P → List ℕ → Option P) (same : P → P → Bool) (book : Book P) (sent : Sent) (gone : Bool) (first other : Option P) → (gone ≡ false → (position : P) → first ≡ Some position → IsAgain reads book sent.number position)
+    → Comes reads book sent (if gone then Gone else at_live same first other)
+deal_comes reads same book sent true first other again = Idles refl
+deal_comes reads same book sent false first other again = live_comes reads same book sent first other (again refl)
 
-withdrawn_untaken : {P : Type 0} (last_live number : ℕ) (deal : Option Deal) (position : P) → withdrawn_at last_live number deal ≡ Taken position → ⊥
-withdrawn_untaken last_live number None position h = absurd (cc)
-withdrawn_untaken last_live number (Some deal) position h = gone_untaken deal.is_withdrawn (nat_eq last_live number) position h
+next_comes : {P : Type 0} (reads : P → List ℕ → Option P) (same : P → P → Bool) (book : Book P) (sent : Sent) (read : Option P) → ((position : P) → read ≡ Some position → IsTaken reads book sent position) → Comes reads book sent (at_next read)
+next_comes reads same book sent None taken = Idles refl
+next_comes reads same book sent (Some position) taken = Takes position refl (taken position refl)
 
-test_untaken : {P : Type 0} (zero : Bool) (decision : Decision P) (position : P) → (decision ≡ Taken position → ⊥) → (if zero then NoDeal else decision) ≡ Taken position → ⊥
-test_untaken true decision position never h = absurd (cc)
-test_untaken false decision position never h = never h
+number_comes : {P : Type 0} (reads : P → List ℕ → Option P) (same : P → P → Bool) (book : Book P) (sent : Sent) (front : P) (deal : Option Deal) (line : List ℕ) → (deal ≡ None → (position : P) → handed_in reads front line ≡ Some position → IsTaken reads book sent position)
+    → ((found : Deal) → deal ≡ Some found → found.is_withdrawn ≡ false → (position : P) → reads front found.line ≡ Some position → IsAgain reads book sent.number position)
+    → Comes reads book sent (at_number reads same front deal line)
+number_comes reads same book sent front None line taken again = next_comes reads same book sent (handed_in reads front line) (taken refl)
+number_comes reads same book sent front (Some deal) line taken again =
+    deal_comes reads same book sent deal.is_withdrawn (reads front deal.line) (handed_in reads front line) (again deal refl)
 
-withdrawal_untaken : {P : Type 0} (seen : Seen P) (number : ℕ) (position : P) → withdrawal_decided seen number ≡ Taken position → ⊥
-unfolding withdrawal_decided
-withdrawal_untaken seen number position h =
-    test_untaken (nat_eq number 0) (withdrawn_at seen.last_live number seen.deal) position (withdrawn_untaken seen.last_live number seen.deal position) h
+tests_come : {P : Type 0} (reads : P → List ℕ → Option P) (same : P → P → Bool) (book : Book P) (sent : Sent) (zero beyond : Bool) (decision : Decision P) → (zero ≡ false → beyond ≡ false → Comes reads book sent decision)
+    → Comes reads book sent (if zero then NoDeal else if beyond then Early else decision)
+tests_come reads same book sent true beyond decision comes = Idles refl
+tests_come reads same book sent false true decision comes = Idles refl
+tests_come reads same book sent false false decision comes = comes refl refl
 
 -- no deal of a number that isn't 0 nor beyond the next: it is the next
 is_next : (deals : List Deal) (number : ℕ) → nat_eq number 0 ≡ false → nat_lt (suc (length deals)) number ≡ false → slice_get deals (number - 1) ≡ None → number ≡ suc (length deals)
@@ -78,166 +97,73 @@ stands : {P : Type 0} (reads : P → List ℕ → Option P) (front : P) (line : 
 stands reads front line true position h = (refl, h)
 stands reads front line false position h = absurd (cc)
 
--- A message that is taken hands in a line at the next number, which can stand in a book, and brings the game so far.
-pub record IsTaken {P : Type 0} (reads : P → List ℕ → Option P) (book : Book P) (sent : Sent) (position : P) : Type 0 where
-  pub line : List ℕ
-  pub hands_in : sent.request ≡ HandsIn line
-  pub next : sent.number ≡ next_number book
-  pub can : can_stand line ≡ true
-  pub read : reads (front_of reads book sent.number).position line ≡ Some position
+line_comes : {P : Type 0} (reads : P → List ℕ → Option P) (same : P → P → Bool) (book : Book P) (number : ℕ) (line : List ℕ) → Comes reads book (record { number = number; request = HandsIn line }) (line_decided reads same (seen_at reads book number) number line)
+unfolding line_decided
+line_comes {P} reads same book number line =
+    let sent : Sent = record { number = number; request = HandsIn line } in
+    let front = (front_before reads book number).position in
+    tests_come reads same book sent (nat_eq number 0) (nat_lt (next_number book) number) (at_number reads same front (deal_at book number) line)
+    (λ some near. number_comes reads same book sent front (deal_at book number) line
+    (λ none position read. let can = stands reads front line (can_stand line) position read in
+    record { line = line; hands_in = refl; next = is_next book.deals number some near none; can = can.0; read = can.1 })
+    (λ deal is live position read. record { deal = deal; deal_is = is; live = live; read = read }))
 
-taken_by : {P : Type 0} (reads : P → List ℕ → Option P) (same : P → P → Bool) (book : Book P) (number : ℕ) (request : Request) (position : P)
-    → comes_to reads same book (record { number = number; request = request }) ≡ Taken position → IsTaken reads book (record { number = number; request = request }) position
-taken_by reads same book number (HandsIn line) position h =
-    let is = line_taken reads same (seen_at reads book number) number line position h in
-    let read = stands reads (front_of reads book number).position line (can_stand line) position is.3 in
-    record { line = line; hands_in = refl; next = is_next book.deals number is.0 is.1 is.2; can = read.0; read = read.1 }
-taken_by reads same book number Withdraws position h = absurd (withdrawal_untaken (seen_at reads book number) number position h)
+-- ---- a withdrawal
+
+removal_comes : {P : Type 0} (reads : P → List ℕ → Option P) (book : Book P) (sent : Sent) (gone last : Bool) → (gone ≡ false → last ≡ true → IsWithdrawn reads book sent.number)
+    → Comes reads book sent (if gone then GoneAlready else if last then Withdrawn else NotLast)
+removal_comes reads book sent true last is = Idles refl
+removal_comes reads book sent false true is = Removes refl (is refl refl)
+removal_comes reads book sent false false is = Idles refl
+
+withdrawn_comes : {P : Type 0} (reads : P → List ℕ → Option P) (book : Book P) (sent : Sent) (last_live number : ℕ) (deal : Option Deal)
+    → ((found : Deal) → deal ≡ Some found → found.is_withdrawn ≡ false → nat_eq last_live number ≡ true → IsWithdrawn reads book sent.number)
+    → Comes reads book sent (withdrawn_at last_live number deal)
+withdrawn_comes reads book sent last_live number None is = Idles refl
+withdrawn_comes reads book sent last_live number (Some deal) is = removal_comes reads book sent deal.is_withdrawn (nat_eq last_live number) (is deal refl)
+
+test_comes : {P : Type 0} (reads : P → List ℕ → Option P) (book : Book P) (sent : Sent) (zero : Bool) (decision : Decision P) → (zero ≡ false → Comes reads book sent decision)
+    → Comes reads book sent (if zero then NoDeal else decision)
+test_comes reads book sent true decision comes = Idles refl
+test_comes reads book sent false decision comes = comes refl
+
+withdrawal_comes : {P : Type 0} (reads : P → List ℕ → Option P) (book : Book P) (number : ℕ) → Comes reads book (record { number = number; request = Withdraws }) (withdrawal_decided (seen_at reads book number) number)
+unfolding withdrawal_decided
+withdrawal_comes reads book number =
+    let sent : Sent = record { number = number; request = Withdraws } in
+    test_comes reads book sent (nat_eq number 0) (withdrawn_at (whole reads book).last_live number (deal_at book number))
+    (λ some. withdrawn_comes reads book sent (whole reads book).last_live number (deal_at book number)
+    (λ deal is live last. record { some = some; deal = deal; deal_is = is; live = live; last = last }))
+
+-- ---- together
+
+comes : {P : Type 0} (reads : P → List ℕ → Option P) (same : P → P → Bool) (book : Book P) (number : ℕ) (request : Request) → Comes reads book (record { number = number; request = request }) (comes_to reads same book (record { number = number; request = request }))
+comes reads same book number (HandsIn line) = line_comes reads same book number line
+comes reads same book number Withdraws = withdrawal_comes reads book number
+
+taken_of : {P : Type 0} (reads : P → List ℕ → Option P) (book : Book P) (sent : Sent) (decision : Decision P) (position : P) → Comes reads book sent decision → decision ≡ Taken position → IsTaken reads book sent position
+taken_of {P} reads book sent decision position (Takes other is so) h = subst (λ (p : P). IsTaken reads book sent p) (let both : Taken other ≡ Taken position = sym is ∙ h in cc) so
+taken_of reads book sent decision position (Repeats other is so) h = absurd (cc)
+taken_of reads book sent decision position (Removes is so) h = absurd (cc)
+taken_of {P} reads book sent decision position (Idles is) h = absurd (let idle : is_idle (Taken position) ≡ true = ap is_idle (sym h) ∙ is in cc)
+
+withdrawn_of : {P : Type 0} (reads : P → List ℕ → Option P) (book : Book P) (sent : Sent) (decision : Decision P) → Comes reads book sent decision → decision ≡ Withdrawn → IsWithdrawn reads book sent.number
+withdrawn_of reads book sent decision (Takes other is so) h = absurd (cc)
+withdrawn_of reads book sent decision (Repeats other is so) h = absurd (cc)
+withdrawn_of reads book sent decision (Removes is so) h = so
+withdrawn_of {P} reads book sent decision (Idles is) h = absurd (let idle : (let none : Decision P = Withdrawn in is_idle none ≡ true) = ap is_idle (sym h) ∙ is in cc)
+
+again_of : {P : Type 0} (reads : P → List ℕ → Option P) (book : Book P) (sent : Sent) (decision : Decision P) (position : P) → Comes reads book sent decision → decision ≡ Again position → IsAgain reads book sent.number position
+again_of reads book sent decision position (Takes other is so) h = absurd (cc)
+again_of {P} reads book sent decision position (Repeats other is so) h = subst (λ (p : P). IsAgain reads book sent.number p) (let both : Again other ≡ Again position = sym is ∙ h in cc) so
+again_of reads book sent decision position (Removes is so) h = absurd (cc)
+again_of {P} reads book sent decision position (Idles is) h = absurd (let idle : is_idle (Again position) ≡ true = ap is_idle (sym h) ∙ is in cc)
 
 pub is_taken : {P : Type 0} (reads : P → List ℕ → Option P) (same : P → P → Bool) (book : Book P) (sent : Sent) (position : P) → comes_to reads same book sent ≡ Taken position → IsTaken reads book sent position
-is_taken reads same book sent position h = taken_by reads same book sent.number sent.request position h
-
--- ---- a deal that is withdrawn
-
-taken_stays : {P : Type 0} (read : Option P) → taken read ≡ Withdrawn → ⊥
-taken_stays None h = absurd (cc)
-taken_stays (Some position) h = absurd (cc)
-
-beside_stays : {P : Type 0} (is : Bool) (first other : P) → (if is then Again first else Another first other) ≡ Withdrawn → ⊥
-beside_stays true first other h = absurd (cc)
-beside_stays false first other h = absurd (cc)
-
-live_stays : {P : Type 0} (same : P → P → Bool) (first other : Option P) → at_live same first other ≡ Withdrawn → ⊥
-live_stays same None other h = absurd (cc)
-live_stays same (Some first) None h = absurd (cc)
-live_stays same (Some first) (Some other) h = beside_stays (same first other) first other h
-
-deal_stays : {P : Type 0} (same : P → P → Bool) (gone : Bool) (first other : Option P) → (if gone then Gone else at_live same first other) ≡ Withdrawn → ⊥
-deal_stays same true first other h = absurd (cc)
-deal_stays same false first other h = live_stays same first other h
-
-number_stays : {P : Type 0} (reads : P → List ℕ → Option P) (same : P → P → Bool) (front : P) (deal : Option Deal) (line : List ℕ) → at_number reads same front deal line ≡ Withdrawn → ⊥
-number_stays reads same front None line h = taken_stays (handed_in reads front line) h
-number_stays reads same front (Some deal) line h = deal_stays same deal.is_withdrawn (reads front deal.line) (handed_in reads front line) h
-
-tests_stay : {P : Type 0} (zero beyond : Bool) (decision : Decision P) → (decision ≡ Withdrawn → ⊥) → (if zero then NoDeal else if beyond then Early else decision) ≡ Withdrawn → ⊥
-tests_stay true beyond decision never h = absurd (cc)
-tests_stay false true decision never h = absurd (cc)
-tests_stay false false decision never h = never h
-
-line_stays : {P : Type 0} (reads : P → List ℕ → Option P) (same : P → P → Bool) (seen : Seen P) (number : ℕ) (line : List ℕ) → line_decided reads same seen number line ≡ Withdrawn → ⊥
-unfolding line_decided
-line_stays reads same seen number line h =
-    tests_stay (nat_eq number 0) (nat_lt seen.next number) (at_number reads same seen.front seen.deal line) (number_stays reads same seen.front seen.deal line) h
-
--- A message that is answered so withdraws the last live deal.
-pub record IsWithdrawn {P : Type 0} (reads : P → List ℕ → Option P) (book : Book P) (number : ℕ) : Type 0 where
-  pub some : nat_eq number 0 ≡ false
-  pub deal : Deal
-  pub deal_is : deal_at book number ≡ Some deal
-  pub live : deal.is_withdrawn ≡ false
-  pub last : nat_eq (whole reads book).last_live number ≡ true
-
-gone_withdrawn : {P : Type 0} (gone last : Bool) → (let d : Decision P = if gone then GoneAlready else if last then Withdrawn else NotLast in d ≡ Withdrawn) → (gone ≡ false) × (last ≡ true)
-gone_withdrawn true last h = absurd (cc)
-gone_withdrawn false true h = (refl, refl)
-gone_withdrawn false false h = absurd (cc)
-
-withdrawn_so : {P : Type 0} (reads : P → List ℕ → Option P) (book : Book P) (number : ℕ) (deal : Option Deal) → deal_at book number ≡ deal → nat_eq number 0 ≡ false
-    → (let d : Decision P = withdrawn_at (whole reads book).last_live number deal in d ≡ Withdrawn) → IsWithdrawn reads book number
-withdrawn_so {P} reads book number None is some h = absurd (cc)
-withdrawn_so {P} reads book number (Some deal) is some h =
-    let tests = gone_withdrawn {P = P} deal.is_withdrawn (nat_eq (whole reads book).last_live number) h in
-    record { some = some; deal = deal; deal_is = is; live = tests.0; last = tests.1 }
-
-test_withdrawn : {P : Type 0} (zero : Bool) (decision : Decision P) → (if zero then NoDeal else decision) ≡ Withdrawn → (zero ≡ false) × (decision ≡ Withdrawn)
-test_withdrawn true decision h = absurd (cc)
-test_withdrawn false decision h = (refl, h)
-
-withdrawal_so : {P : Type 0} (reads : P → List ℕ → Option P) (book : Book P) (number : ℕ) → withdrawal_decided (seen_at reads book number) number ≡ Withdrawn → IsWithdrawn reads book number
-unfolding withdrawal_decided
-withdrawal_so {P} reads book number h =
-    let d : Decision P = withdrawn_at (whole reads book).last_live number (deal_at book number) in
-    let test = test_withdrawn (nat_eq number 0) d h in
-    withdrawn_so reads book number (deal_at book number) refl test.0 test.1
-
-withdrawn_by : {P : Type 0} (reads : P → List ℕ → Option P) (same : P → P → Bool) (book : Book P) (number : ℕ) (request : Request)
-    → comes_to reads same book (record { number = number; request = request }) ≡ Withdrawn → IsWithdrawn reads book number
-withdrawn_by reads same book number (HandsIn line) h = absurd (line_stays reads same (seen_at reads book number) number line h)
-withdrawn_by reads same book number Withdraws h = withdrawal_so reads book number h
+is_taken reads same book sent position h = taken_of reads book sent (comes_to reads same book sent) position (comes reads same book sent.number sent.request) h
 
 pub is_withdrawn : {P : Type 0} (reads : P → List ℕ → Option P) (same : P → P → Bool) (book : Book P) (sent : Sent) → comes_to reads same book sent ≡ Withdrawn → IsWithdrawn reads book sent.number
-is_withdrawn reads same book sent h = withdrawn_by reads same book sent.number sent.request h
-
--- ---- an outcome that is there again
-
-taken_new : {P : Type 0} (read : Option P) (position : P) → taken read ≡ Again position → ⊥
-taken_new None position h = absurd (cc)
-taken_new (Some other) position h = absurd (cc)
-
-beside_again : {P : Type 0} (is : Bool) (first other position : P) → (if is then Again first else Another first other) ≡ Again position → first ≡ position
-beside_again true first other position h = cc
-beside_again false first other position h = absurd (cc)
-
-live_again : {P : Type 0} (same : P → P → Bool) (first other : Option P) (position : P) → at_live same first other ≡ Again position → first ≡ Some position
-live_again same None other position h = absurd (cc)
-live_again same (Some first) None position h = absurd (cc)
-live_again same (Some first) (Some other) position h = ap Some (beside_again (same first other) first other position h)
-
-deal_again : {P : Type 0} (same : P → P → Bool) (gone : Bool) (first other : Option P) (position : P) → (if gone then Gone else at_live same first other) ≡ Again position → (gone ≡ false) × (first ≡ Some position)
-deal_again same true first other position h = absurd (cc)
-deal_again same false first other position h = (refl, live_again same first other position h)
-
--- A message that is answered as before has the number of a live deal, which brings the game so far.
-pub record IsAgain {P : Type 0} (reads : P → List ℕ → Option P) (book : Book P) (number : ℕ) (position : P) : Type 0 where
-  pub deal : Deal
-  pub deal_is : deal_at book number ≡ Some deal
-  pub live : deal.is_withdrawn ≡ false
-  pub read : reads (front_of reads book number).position deal.line ≡ Some position
-
-number_again : {P : Type 0} (reads : P → List ℕ → Option P) (same : P → P → Bool) (book : Book P) (number : ℕ) (deal : Option Deal) (line : List ℕ) (position : P) → deal_at book number ≡ deal
-    → at_number reads same (front_of reads book number).position deal line ≡ Again position → IsAgain reads book number position
-number_again reads same book number None line position is h = absurd (taken_new (handed_in reads (front_of reads book number).position line) position h)
-number_again reads same book number (Some deal) line position is h =
-    let front = (front_of reads book number).position in
-    let both = deal_again same deal.is_withdrawn (reads front deal.line) (handed_in reads front line) position h in
-    record { deal = deal; deal_is = is; live = both.0; read = both.1 }
-
-tests_again : {P : Type 0} (zero beyond : Bool) (decision : Decision P) (position : P) → (if zero then NoDeal else if beyond then Early else decision) ≡ Again position → decision ≡ Again position
-tests_again true beyond decision position h = absurd (cc)
-tests_again false true decision position h = absurd (cc)
-tests_again false false decision position h = h
-
-line_again : {P : Type 0} (reads : P → List ℕ → Option P) (same : P → P → Bool) (book : Book P) (number : ℕ) (line : List ℕ) (position : P)
-    → line_decided reads same (seen_at reads book number) number line ≡ Again position → IsAgain reads book number position
-unfolding line_decided
-line_again reads same book number line position h =
-    let front = (front_of reads book number).position in
-    number_again reads same book number (deal_at book number) line position refl
-    (tests_again (nat_eq number 0) (nat_lt (next_number book) number) (at_number reads same front (deal_at book number) line) position h)
-
-gone_new : {P : Type 0} (gone last : Bool) (position : P) → (if gone then GoneAlready else if last then Withdrawn else NotLast) ≡ Again position → ⊥
-gone_new true last position h = absurd (cc)
-gone_new false true position h = absurd (cc)
-gone_new false false position h = absurd (cc)
-
-withdrawn_new : {P : Type 0} (last_live number : ℕ) (deal : Option Deal) (position : P) → withdrawn_at last_live number deal ≡ Again position → ⊥
-withdrawn_new last_live number None position h = absurd (cc)
-withdrawn_new last_live number (Some deal) position h = gone_new deal.is_withdrawn (nat_eq last_live number) position h
-
-test_new : {P : Type 0} (zero : Bool) (decision : Decision P) (position : P) → (decision ≡ Again position → ⊥) → (if zero then NoDeal else decision) ≡ Again position → ⊥
-test_new true decision position never h = absurd (cc)
-test_new false decision position never h = never h
-
-withdrawal_new : {P : Type 0} (seen : Seen P) (number : ℕ) (position : P) → withdrawal_decided seen number ≡ Again position → ⊥
-unfolding withdrawal_decided
-withdrawal_new seen number position h =
-    test_new (nat_eq number 0) (withdrawn_at seen.last_live number seen.deal) position (withdrawn_new seen.last_live number seen.deal position) h
-
-again_by : {P : Type 0} (reads : P → List ℕ → Option P) (same : P → P → Bool) (book : Book P) (number : ℕ) (request : Request) (position : P)
-    → comes_to reads same book (record { number = number; request = request }) ≡ Again position → IsAgain reads book number position
-again_by reads same book number (HandsIn line) position h = line_again reads same book number line position h
-again_by reads same book number Withdraws position h = absurd (withdrawal_new (seen_at reads book number) number position h)
+is_withdrawn reads same book sent h = withdrawn_of reads book sent (comes_to reads same book sent) (comes reads same book sent.number sent.request) h
 
 pub is_again : {P : Type 0} (reads : P → List ℕ → Option P) (same : P → P → Bool) (book : Book P) (sent : Sent) (position : P) → comes_to reads same book sent ≡ Again position → IsAgain reads book sent.number position
-is_again reads same book sent position h = again_by reads same book sent.number sent.request position h
+is_again reads same book sent position h = again_of reads book sent (comes_to reads same book sent) position (comes reads same book sent.number sent.request) h

@@ -7,7 +7,7 @@ use Rattle.std.proofs.lemmas.Option.{slice_get_within}
 use Rattle.desk_hall.specs.Books.{Book, next_number}
 use Rattle.desk_hall.specs.Deals.{Deal, live}
 use Rattle.desk_hall.specs.Decided.{Request, HandsIn, Withdraws}
-use Rattle.desk_hall.specs.Histories.{Sent, with_gone, with_taken, deals_by, comes_to, book_by, next_book, book_after, is_taken as takes, is_withdrawn as withdraws, turns_from, line_handed, line_taken, number_taken, withdrew, lines_taken, numbers_taken, numbers_from}
+use Rattle.desk_hall.specs.Histories.{Sent, with_gone, with_taken, deals_by, comes_to, book_by, next_book, book_after, takes_line, withdraws_deal, turns_from, line_handed, line_taken, number_taken, withdrew, lines_taken, numbers_taken, numbers_from}
 use Rattle.desk_hall.specs.Laws.{gone_if, DealsAreTheTaken, GoneAreTheWithdrawn, OthersChangeNothing}
 use Rattle.desk_hall.specs.declared.decision.Decision.{Decision}
 use Rattle.desk_hall.specs.declared.decision.Decision.TheVariants.{Taken, Again, Another, Early, Refused, Gone, Withdrawn, GoneAlready, NotLast, NoDeal}
@@ -162,7 +162,7 @@ gone_are_the_withdrawn reads same book (sent ∷ others) place =
 
 -- ---- what changes nothing
 
-unchanged : {P : Type 0} (book : Book P) (sent : Sent) (decision : Decision P) → takes decision ≡ false → withdraws decision ≡ false → book_by book sent decision ≡ book
+unchanged : {P : Type 0} (book : Book P) (sent : Sent) (decision : Decision P) → takes_line decision ≡ false → withdraws_deal decision ≡ false → book_by book sent decision ≡ book
 unchanged book sent (Taken position) untaken stays = absurd (cc)
 unchanged book sent (Again position) untaken stays = refl
 unchanged book sent (Another first other) untaken stays = refl

@@ -2,7 +2,7 @@
 use Rattle.std.proofs.Common.{◌≡◌, ℕ, ◌+◌, List, [], ◌∷◌, ◌++◌, Bool, true, false, Option, refl, sym, ap, ◌∙◌, length, append_assoc, arith}
 use Rattle.std.specs.Prelude.{◌&&◌}
 use Rattle.desk_hall.specs.Deals.{Deal, line_of, ended, deals_text}
-use Rattle.desk_hall.specs.Fronts.{Front, behind_deal, behind_deals, is_accepted, are_accepted}
+use Rattle.desk_hall.specs.Fronts.{Front, behind_deal, behind_deals, game_accepts, are_accepted}
 
 pub behind_more : {P : Type 0} (reads : P → List ℕ → Option P) (front : Front P) (deals more : List Deal) → behind_deals reads front (deals ++ more) ≡ behind_deals reads (behind_deals reads front deals) more
 behind_more reads front [] more = refl
@@ -17,7 +17,7 @@ pub accepted_more : {P : Type 0} (reads : P → List ℕ → Option P) (front : 
 accepted_more reads front [] more = refl
 accepted_more reads front (deal ∷ deals) more =
     let next = behind_deal reads front deal in
-    let one = is_accepted reads front.position deal in
+    let one = game_accepts reads front.position deal in
     ap (λ (b : Bool). one && b) (accepted_more reads next deals more) ∙ and_assoc one (are_accepted reads next deals) (are_accepted reads (behind_deals reads next deals) more)
 
 -- each deal counts for one

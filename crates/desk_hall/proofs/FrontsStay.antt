@@ -6,7 +6,7 @@ use Rattle.std.proofs.Math.Seq.{take-append_seam, take-length}
 use Rattle.std.proofs.lemmas.Bool.{eqb-true, ne_eqb}
 use Rattle.std.proofs.lemmas.List.{take-append-le}
 use Rattle.std.proofs.lemmas.Option.{slice_get_cases, slice_get_within}
-use Rattle.desk_hall.specs.Books.{Book, front_of, whole, deal_at, next_number}
+use Rattle.desk_hall.specs.Books.{Book, front_before, whole, deal_at, next_number}
 use Rattle.desk_hall.specs.Deals.{Deal, can_stand, live}
 use Rattle.desk_hall.specs.Decided.{Request, HandsIn, Withdraws, Seen, seen_at, at_live, at_deal, at_number, line_decided, decided_so}
 use Rattle.desk_hall.specs.Fronts.{Front, first_front, behind_deal, behind_deals}
@@ -157,7 +157,7 @@ front_in_front (deal ∷ deals) (suc place) = ap (λ (ds : List Deal). deal ∷ 
 -- Behind a line that was taken and what came later, where its deal is live still: it is the same deal with the same front.
 record IsThere {P : Type 0} (reads : P → List ℕ → Option P) (book later : Book P) (number : ℕ) (line : List ℕ) : Type 0 where
   deal_is : deal_at later number ≡ Some (live line)
-  front_is : front_of reads later number ≡ front_of reads book number
+  front_is : front_before reads later number ≡ front_before reads book number
 
 still_there : {P : Type 0} (reads : P → List ℕ → Option P) (same : P → P → Bool) (book : Book P) (first : Sent) (between : List Sent) (position : P) (is : comes_to reads same book first ≡ Taken position)
     → gone_if (deal_at (book_after reads same (next_book reads same book first) between) first.number) ≡ false
@@ -194,8 +194,8 @@ again_as_the_first {P} reads same book first between again position other is at 
     let both_deals : Some found.deal ≡ Some (live so.line) = sym deal_is ∙ there.deal_is in
     let line_is : found.deal ≡ live so.line = cc in
     let both : Some other ≡ Some position =
-    sym found.read ∙ ap (λ (n : ℕ). reads (front_of reads later n).position found.deal.line) at ∙ ap (λ (f : Front P). reads f.position found.deal.line) there.front_is
-    ∙ ap (λ (d : Deal). reads (front_of reads book first.number).position d.line) line_is ∙ so.read in
+    sym found.read ∙ ap (λ (n : ℕ). reads (front_before reads later n).position found.deal.line) at ∙ ap (λ (f : Front P). reads f.position found.deal.line) there.front_is
+    ∙ ap (λ (d : Deal). reads (front_before reads book first.number).position d.line) line_is ∙ so.read in
     cc
 
 -- ---- a message that comes once more
@@ -227,17 +227,17 @@ live_once_more {P} reads same front line position can read itself =
 
 doubled_by : {P : Type 0} (reads : P → List ℕ → Option P) (same : P → P → Bool) (itself : (p : P) → same p p ≡ true) (book : Book P) (first : Sent) (between : List Sent) (position : P) (is : comes_to reads same book first ≡ Taken position) (deal : Deal)
     → deal_at (book_after reads same (next_book reads same book first) between) first.number ≡ Some deal → (gone : Bool) → deal.is_withdrawn ≡ gone
-    → at_deal reads same (front_of reads (book_after reads same (next_book reads same book first) between) first.number).position deal (is_taken reads same book first position is).line ≡ once_more gone position
+    → at_deal reads same (front_before reads (book_after reads same (next_book reads same book first) between) first.number).position deal (is_taken reads same book first position is).line ≡ once_more gone position
 doubled_by reads same itself book first between position is deal at true lives =
     let later = book_after reads same (next_book reads same book first) between in
-    gone_again reads same (front_of reads later first.number).position (is_taken reads same book first position is).line deal.line deal.is_withdrawn lives
+    gone_again reads same (front_before reads later first.number).position (is_taken reads same book first position is).line deal.line deal.is_withdrawn lives
 doubled_by {P} reads same itself book first between position is deal at false lives =
     let so : IsTaken reads book first position = is_taken reads same book first position is in
     let later = book_after reads same (next_book reads same book first) between in
     let there = still_there reads same book first between position is (ap gone_if at ∙ lives) in
     let both_deals : Some deal ≡ Some (live so.line) = sym at ∙ there.deal_is in
     let deal_is : deal ≡ live so.line = cc in
-    let front = (front_of reads later first.number).position in
+    let front = (front_before reads later first.number).position in
     ap (λ (d : Deal). at_deal reads same front d so.line) deal_is
     ∙ live_once_more reads same front so.line position so.can (ap (λ (f : Front P). reads f.position so.line) there.front_is ∙ so.read) (itself position)
 

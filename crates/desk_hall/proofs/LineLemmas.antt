@@ -3,7 +3,7 @@ use Rattle.std.proofs.Common.{◌≡◌, ℕ, List, [], ◌∷◌, ◌++◌, Boo
 use Rattle.std.specs.Prelude.{◌&&◌, ◌||◌, not}
 use Rattle.riichi_tiles.specs.Melds.{in_front, cut_at}
 use Rattle.riichi_tiles.proofs.CutLemmas.{Joins, cut_joins}
-use Rattle.desk_hall.specs.Deals.{Deal, gone_words, is_one_line, says_gone, is_kept, line_of, ended, IsDealOf}
+use Rattle.desk_hall.specs.Deals.{Deal, gone_words, is_one_line, says_gone, is_book_deal, line_of, ended, IsDealOf}
 use Rattle.desk_hall.specs.Playing.{IsNextDeal}
 
 abbrev first_of : Option (List ℕ × List ℕ) → List ℕ
@@ -37,8 +37,8 @@ unfolding gone_words
 one_line_of line true plain = plain
 one_line_of line false plain = plain
 
-pub kept_so : (deal : Deal) → is_one_line (line_of deal) ≡ true → (deal.is_withdrawn || not (says_gone deal.line)) ≡ true → is_kept deal ≡ true
-unfolding is_kept
+pub kept_so : (deal : Deal) → is_one_line (line_of deal) ≡ true → (deal.is_withdrawn || not (says_gone deal.line)) ≡ true → is_book_deal deal ≡ true
+unfolding is_book_deal
 kept_so deal plain so = ap (λ (b : Bool). b && (deal.is_withdrawn || not (says_gone deal.line))) (one_line_of deal.line deal.is_withdrawn plain) ∙ so
 
 pub next_is : (text line after : List ℕ) (deal : Deal) → cut_at 10 text ≡ Some (line, after) → IsDealOf line deal → IsNextDeal text deal after

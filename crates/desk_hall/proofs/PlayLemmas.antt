@@ -5,8 +5,8 @@ use Rattle.std.specs.List.{list_all}
 use Rattle.std.proofs.lemmas.List.{append-nil}
 use Rattle.std.proofs.lemmas.List.Folds.{list_all-append}
 use Rattle.riichi_tiles.specs.Melds.{cut_at}
-use Rattle.desk_hall.specs.Deals.{Deal, is_kept, line_of, ended, deals_text}
-use Rattle.desk_hall.specs.Fronts.{Front, behind_deal, behind_deals, is_accepted, are_accepted}
+use Rattle.desk_hall.specs.Deals.{Deal, is_book_deal, line_of, ended, deals_text}
+use Rattle.desk_hall.specs.Fronts.{Front, behind_deal, behind_deals, game_accepts, are_accepted}
 use Rattle.desk_hall.specs.Playing.{MayHave, Begins, IsNextDeal, Plays, MeetsFault, Unended, Refuses}
 use Rattle.desk_hall.proofs.FrontLemmas.{behind_more, accepted_more, text_more}
 
@@ -26,7 +26,7 @@ both_true one other is also = ap (λ (b : Bool). b && other) is ∙ also
 pub begins_more : (text : List ℕ) (deals : List Deal) (rest : List ℕ) (more : List Deal) (after : List ℕ) → Begins text deals rest → Begins rest more after → Begins text (deals ++ more) after
 begins_more text deals rest more after one other = record {
   parts = one.parts ∙ ap (λ (t : List ℕ). deals_text deals ++ t) other.parts ∙ sym (append_assoc (deals_text deals) (deals_text more) after) ∙ ap (λ (t : List ℕ). t ++ after) (sym (text_more deals more));
-  kept = list_all-append is_kept deals more ∙ both_true (list_all is_kept deals) (list_all is_kept more) one.kept other.kept;
+  kept = list_all-append is_book_deal deals more ∙ both_true (list_all is_book_deal deals) (list_all is_book_deal more) one.kept other.kept;
 }
 
 pub begins_one : (text : List ℕ) (deal : Deal) (after : List ℕ) → IsNextDeal text deal after → Begins text (deal ∷ []) after
@@ -37,7 +37,7 @@ begins_one text deal after next = record {
 
 -- one deal more
 pub one_played : {P : Type 0} (reads : P → List ℕ → Option P) (before now next : Front P) (text rest : List ℕ) (deal : Deal) (after : List ℕ) → Plays reads before text now rest → IsNextDeal rest deal after
-    → is_accepted reads now.position deal ≡ true → next ≡ behind_deal reads now deal → Plays reads before text next after
+    → game_accepts reads now.position deal ≡ true → next ≡ behind_deal reads now deal → Plays reads before text next after
 one_played {P} reads before now next text rest deal after plays begins accepts is = record {
   deals = plays.deals ++ deal ∷ [];
   begins = begins_more text plays.deals rest (deal ∷ []) after plays.begins (begins_one rest deal after begins);
@@ -57,7 +57,7 @@ pub unended : {P : Type 0} (reads : P → List ℕ → Option P) (before now : F
 unended reads before now text rest plays none some = Unended plays.deals rest plays.begins none some
 
 pub refused : {P : Type 0} (reads : P → List ℕ → Option P) (before now : Front P) (text rest : List ℕ) (deal : Deal) (after : List ℕ) → Plays reads before text now rest → IsNextDeal rest deal after
-    → is_accepted reads now.position deal ≡ false → MeetsFault reads before text
+    → game_accepts reads now.position deal ≡ false → MeetsFault reads before text
 refused {P} reads before now text rest deal after plays begins refuses =
     Refuses (plays.deals ++ deal ∷ []) after (begins_more text plays.deals rest (deal ∷ []) after plays.begins (begins_one rest deal after begins))
     (accepted_more reads before plays.deals (deal ∷ []) ∙ ap (λ (b : Bool). b && are_accepted reads (behind_deals reads before plays.deals) (deal ∷ [])) plays.accepted

@@ -6,8 +6,8 @@ use Rattle.std.proofs.lemmas.List.{append-nil, take_all}
 use Rattle.std.proofs.lemmas.Option.{slice_get_past}
 use Rattle.desk_hall.specs.Deals.{Deal, line_of, ended, deals_text, deal_by}
 use Rattle.desk_hall.specs.Decided.{Request, Seen, decided_so, IsJudged}
-use Rattle.desk_hall.specs.Fronts.{Front, first_front, behind_deal, behind_deals, is_accepted, are_accepted}
-use Rattle.desk_hall.specs.Playing.{HasAll, Begins, IsNextDeal, PlaysOn}
+use Rattle.desk_hall.specs.Fronts.{Front, first_front, behind_deal, behind_deals, game_accepts, are_accepted}
+use Rattle.desk_hall.specs.Playing.{HasSoMany, Begins, IsNextDeal, PlaysOn}
 use Rattle.desk_hall.specs.Seeing.{seen_by, IsSeen}
 use Rattle.desk_hall.specs.declared.deal.DealLine.{DealLine}
 use Rattle.desk_hall.specs.declared.judged.Judged.{Judged}
@@ -59,18 +59,18 @@ get_seam [] deal behind = refl
 get_seam (first ∷ before) deal behind = get_seam before deal behind
 
 -- a deal comes, so there are as many as were asked for
-has_all : (rest : List ℕ) (deal : Deal) (behind : List ℕ) (most count : ℕ) → IsNextDeal rest deal behind → (rest ≡ []) ⊎ HasAll (Some most) count → count ≡ most
+has_all : (rest : List ℕ) (deal : Deal) (behind : List ℕ) (most count : ℕ) → IsNextDeal rest deal behind → (rest ≡ []) ⊎ HasSoMany (Some most) count → count ≡ most
 has_all rest deal behind most count next (inl none) =
     absurd (omega (arith, ap length none, ap length next.parts, length-append (ended (line_of deal)) behind, length-append (line_of deal) (10 ∷ [])))
 has_all rest deal behind most count next (inr all) = all
 
-at_end : (rest : List ℕ) (count : ℕ) → (rest ≡ []) ⊎ HasAll None count → rest ≡ []
+at_end : (rest : List ℕ) (count : ℕ) → (rest ≡ []) ⊎ HasSoMany None count → rest ≡ []
 at_end rest count (inl none) = none
 at_end rest count (inr never) = absurd never
 
 -- a deal has the number
 pub taken_seen : {P : Type 0} (reads : P → List ℕ → Option P) (start : P) (text : List ℕ) (number : ℕ) (front : Front P) (rest : List ℕ) (deal : DealLine) (behind : List ℕ) (next all : Front P) (end : List ℕ)
-    → PlaysOn reads (first_front start) text (Some (number - 1)) front rest → IsNextDeal rest (deal_by deal) behind → is_accepted reads front.position (deal_by deal) ≡ true → next ≡ behind_deal reads front (deal_by deal)
+    → PlaysOn reads (first_front start) text (Some (number - 1)) front rest → IsNextDeal rest (deal_by deal) behind → game_accepts reads front.position (deal_by deal) ≡ true → next ≡ behind_deal reads front (deal_by deal)
     → PlaysOn reads next behind None all end
     → IsSeen reads start text number (record { front = front.position; deal = Some deal; next = all.count + 1; last_live = all.last_live; place = length text - length rest })
 taken_seen {P} reads start text number front rest deal behind next all end on is accepts next_is others =
@@ -89,8 +89,8 @@ taken_seen {P} reads start text number front rest deal behind next all end on is
     let sound : are_accepted reads first deals ≡ true =
     accepted_more reads first before (one ∷ after)
     ∙ both_true (are_accepted reads first before) (are_accepted reads (behind_deals reads first before) (one ∷ after)) on.plays.accepted
-    (both_true (is_accepted reads (behind_deals reads first before).position one) (are_accepted reads (behind_deal reads (behind_deals reads first before) one) after)
-    (ap (λ (f : Front P). is_accepted reads f.position one) (sym on.plays.after_is) ∙ accepts)
+    (both_true (game_accepts reads (behind_deals reads first before).position one) (are_accepted reads (behind_deal reads (behind_deals reads first before) one) after)
+    (ap (λ (f : Front P). game_accepts reads f.position one) (sym on.plays.after_is) ∙ accepts)
     (ap (λ (f : Front P). are_accepted reads f after) (sym next_front) ∙ others.plays.accepted)) in
     let front_deals : take (number - 1) deals ≡ before = ap (λ (n : ℕ). take n deals) place ∙ take-append_seam before (one ∷ after) in
     let front_is : front.position ≡ (behind_deals reads first (take (number - 1) deals)).position =

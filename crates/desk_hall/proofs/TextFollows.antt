@@ -6,10 +6,10 @@ use Rattle.std.proofs.Math.Seq.{take-append_seam, drop-append_seam, take-length}
 use Rattle.std.proofs.lemmas.Bool.{and_parts, eqb-true}
 use Rattle.std.proofs.lemmas.List.{append-nil, take-append-drop}
 use Rattle.std.proofs.lemmas.List.Folds.{list_all-append}
-use Rattle.desk_hall.specs.Books.{Book, front_of, whole, IsBookText}
-use Rattle.desk_hall.specs.Deals.{Deal, live, gone, gone_words, line_of, ended, deals_text, is_one_line, says_gone, can_stand, is_kept}
+use Rattle.desk_hall.specs.Books.{Book, front_before, whole, IsBookText}
+use Rattle.desk_hall.specs.Deals.{Deal, live, gone, gone_words, line_of, ended, deals_text, is_one_line, says_gone, can_stand, is_book_deal}
 use Rattle.desk_hall.specs.Decided.{Request}
-use Rattle.desk_hall.specs.Fronts.{Front, first_front, behind_deal, behind_deals, is_accepted, are_accepted}
+use Rattle.desk_hall.specs.Fronts.{Front, first_front, behind_deal, behind_deals, game_accepts, are_accepted}
 use Rattle.desk_hall.specs.Histories.{Sent, with_gone, with_taken, comes_to, book_by}
 use Rattle.desk_hall.specs.Laws.{line_put, put_by, put_at, TextFollows}
 use Rattle.desk_hall.specs.declared.decision.Decision.{Decision}
@@ -21,8 +21,8 @@ use Rattle.desk_hall.proofs.FrontsStay.{last_within, last_grows}
 
 -- ---- a line that is taken
 
-kept_live : (line : List ℕ) → can_stand line ≡ true → is_kept (live line) ≡ true
-unfolding can_stand is_kept
+kept_live : (line : List ℕ) → can_stand line ≡ true → is_book_deal (live line) ≡ true
+unfolding can_stand is_book_deal
 kept_live line can =
     let parts = and_parts (nat_le (length line) 4084 && is_one_line line) (not (says_gone line)) can in
     let one = and_parts (nat_le (length line) 4084) (is_one_line line) parts.0 in
@@ -52,14 +52,14 @@ text_taken {P} reads same text book sent position is so =
     let all : take (sent.number - 1) deals ≡ deals = ap (λ (n : ℕ). take n deals) number ∙ take-length deals in
     let end : put_at text (length (deals_text (take (sent.number - 1) deals))) (ended line) ≡ text ++ ended line =
     at_end text (ended line) (length (deals_text (take (sent.number - 1) deals))) (ap (λ (ds : List Deal). length (deals_text ds)) all ∙ ap length (sym is.text_is)) in
-    let front : front_of reads book sent.number ≡ behind_deals reads (first_front book.start) deals = ap (behind_deals reads (first_front book.start)) all in
-    let accepts : is_accepted reads (behind_deals reads (first_front book.start) deals).position (live line) ≡ true =
+    let front : front_before reads book sent.number ≡ behind_deals reads (first_front book.start) deals = ap (behind_deals reads (first_front book.start)) all in
+    let accepts : game_accepts reads (behind_deals reads (first_front book.start) deals).position (live line) ≡ true =
     some_is (reads (behind_deals reads (first_front book.start) deals).position line) position (ap (λ (f : Front P). reads f.position line) (sym front) ∙ so.read) in
     let longer : IsBookText reads (text ++ ended line) (record { start = book.start; deals = deals ++ live line ∷ [] }) = record {
       text_is = ap (λ (t : List ℕ). t ++ ended line) is.text_is ∙ ap (λ (t : List ℕ). deals_text deals ++ t) (sym (append-nil (ended line))) ∙ sym (text_more deals (live line ∷ []));
-      kept = list_all-append is_kept deals (live line ∷ []) ∙ and_both (list_all is_kept deals) (is_kept (live line) && true) is.kept (ap (λ (b : Bool). b && true) (kept_live line so.can));
+      kept = list_all-append is_book_deal deals (live line ∷ []) ∙ and_both (list_all is_book_deal deals) (is_book_deal (live line) && true) is.kept (ap (λ (b : Bool). b && true) (kept_live line so.can));
       sound = accepted_more reads (first_front book.start) deals (live line ∷ [])
-          ∙ and_both (are_accepted reads (first_front book.start) deals) (is_accepted reads (behind_deals reads (first_front book.start) deals).position (live line) && true) is.sound (ap (λ (b : Bool). b && true) accepts);
+          ∙ and_both (are_accepted reads (first_front book.start) deals) (game_accepts reads (behind_deals reads (first_front book.start) deals).position (live line) && true) is.sound (ap (λ (b : Bool). b && true) accepts);
     } in
     subst (λ (r : Request). IsBookText reads (put_at text (length (deals_text (take (sent.number - 1) deals))) (line_put r)) (record { start = book.start; deals = with_taken r deals })) (sym so.hands_in)
     (subst (λ (t : List ℕ). IsBookText reads t (record { start = book.start; deals = deals ++ live line ∷ [] })) (sym end) longer)
@@ -73,7 +73,7 @@ gone_accepted : {P : Type 0} (reads : P → List ℕ → Option P) (front : Fron
 gone_accepted reads front [] all = refl
 gone_accepted reads front (deal ∷ deals) all =
     let both = and_parts _ _ all in
-    and_both (is_accepted reads front.position deal) (are_accepted reads (behind_deal reads front deal) deals) (ap (λ (b : Bool). b || is_some (reads front.position deal.line)) both.0) (gone_accepted reads (behind_deal reads front deal) deals both.1)
+    and_both (game_accepts reads front.position deal) (are_accepted reads (behind_deal reads front deal) deals) (ap (λ (b : Bool). b || is_some (reads front.position deal.line)) both.0) (gone_accepted reads (behind_deal reads front deal) deals both.1)
 
 first_gone : (gone : Bool) (last count most : ℕ) → (if gone then last else suc count) ≤ most → most ≤ count → gone ≡ true
 first_gone true last count most within few = refl
@@ -99,19 +99,19 @@ gone_sound reads front (deal ∷ deals) zero within last sound =
 gone_sound reads front (deal ∷ deals) (suc at) within last sound =
     let next = behind_deal reads front deal in
     let both = and_parts _ _ sound in
-    and_both (is_accepted reads front.position deal) (are_accepted reads next (with_gone at deals)) both.0
+    and_both (game_accepts reads front.position deal) (are_accepted reads next (with_gone at deals)) both.0
     (gone_sound reads next deals at (last_within deal.is_withdrawn front.last_live front.count within) (omega (arith, last)) both.1)
 
-kept_gone : (deal : Deal) → is_kept deal ≡ true → is_kept (gone deal.line) ≡ true
-unfolding is_kept
+kept_gone : (deal : Deal) → is_book_deal deal ≡ true → is_book_deal (gone deal.line) ≡ true
+unfolding is_book_deal
 kept_gone deal kept = ap (λ (b : Bool). b && true) ((and_parts _ _ kept).0)
 
-gone_kept : (at : ℕ) (deals : List Deal) → list_all is_kept deals ≡ true → list_all is_kept (with_gone at deals) ≡ true
+gone_kept : (at : ℕ) (deals : List Deal) → list_all is_book_deal deals ≡ true → list_all is_book_deal (with_gone at deals) ≡ true
 gone_kept at [] kept = refl
 gone_kept zero (deal ∷ deals) kept =
-    let both = and_parts _ _ kept in and_both (is_kept (gone deal.line)) (list_all is_kept deals) (kept_gone deal both.0) both.1
+    let both = and_parts _ _ kept in and_both (is_book_deal (gone deal.line)) (list_all is_book_deal deals) (kept_gone deal both.0) both.1
 gone_kept (suc at) (deal ∷ deals) kept =
-    let both = and_parts _ _ kept in and_both (is_kept deal) (list_all is_kept (with_gone at deals)) both.0 (gone_kept at deals both.1)
+    let both = and_parts _ _ kept in and_both (is_book_deal deal) (list_all is_book_deal (with_gone at deals)) both.0 (gone_kept at deals both.1)
 
 -- the deals around one of them
 around : (deals : List Deal) (at : ℕ) (deal : Deal) → slice_get deals at ≡ Some deal → deals ≡ take at deals ++ deal ∷ drop (suc at) deals

@@ -45,8 +45,8 @@ unfoldable pub can_stand : List ℕ → Bool
 can_stand line = nat_le (length line) 4084 && is_one_line line && not (says_gone line)
 
 -- the line is one line, and that of a live deal isn't taken for a withdrawn one's
-unfoldable pub is_kept : Deal → Bool
-is_kept deal = is_one_line deal.line && (deal.is_withdrawn || not (says_gone deal.line))
+unfoldable pub is_book_deal : Deal → Bool
+is_book_deal deal = is_one_line deal.line && (deal.is_withdrawn || not (says_gone deal.line))
 
 -- ---- as it is read
 

@@ -1,7 +1,7 @@
 -- What a message comes to.
 use Rattle.std.specs.Prelude.{◌≡◌, ℕ, ◌-◌, ◌==◌, List, length, take, Bool, nat_lt, Option, None, Some, if◌then◌else◌}
 use Rattle.desk_hall.specs.Deals.{Deal, can_stand, deals_text}
-use Rattle.desk_hall.specs.Books.{Book, front_of, whole, deal_at, next_number, IsBookText}
+use Rattle.desk_hall.specs.Books.{Book, front_before, whole, deal_at, next_number, IsBookText}
 use Rattle.desk_hall.specs.declared.decision.Decision.{Decision}
 use Rattle.desk_hall.specs.declared.decision.Decision.TheVariants.{Taken, Again, Another, Early, Refused, Gone, Withdrawn, GoneAlready, NotLast, NoDeal}
 use Rattle.desk_hall.specs.declared.judged.Judged.{Judged}
@@ -21,7 +21,7 @@ pub record Seen (P : Type 0) : Type 0 where
 
 abbrev pub seen_at : {P : Type 0} → (P → List ℕ → Option P) → Book P → ℕ → Seen P
 seen_at reads book number = record {
-  front = (front_of reads book number).position;
+  front = (front_before reads book number).position;
   deal = deal_at book number;
   next = next_number book;
   last_live = (whole reads book).last_live;
@@ -34,25 +34,25 @@ abbrev pub handed_in : {P : Type 0} → (P → List ℕ → Option P) → P → 
 handed_in reads front line = if can_stand line then reads front line else None
 
 -- at the next number
-abbrev pub taken : {P : Type 0} → Option P → Decision P
-taken None = Refused
-taken (Some position) = Taken position
+abbrev pub at_next : {P : Type 0} → Option P → Decision P
+at_next None = Refused
+at_next (Some position) = Taken position
 
 -- beside the outcome of a number that is taken
-abbrev pub beside : {P : Type 0} → (P → P → Bool) → P → P → Decision P
-beside same first other = if same first other then Again first else Another first other
+abbrev pub again_or_another : {P : Type 0} → (P → P → Bool) → P → P → Decision P
+again_or_another same first other = if same first other then Again first else Another first other
 
 -- at a number that is taken: by its own line, which no book refuses, and by the line handed in
 abbrev pub at_live : {P : Type 0} → (P → P → Bool) → Option P → Option P → Decision P
 at_live same None line = Refused
 at_live same (Some first) None = Refused
-at_live same (Some first) (Some other) = beside same first other
+at_live same (Some first) (Some other) = again_or_another same first other
 
 abbrev pub at_deal : {P : Type 0} → (P → List ℕ → Option P) → (P → P → Bool) → P → Deal → List ℕ → Decision P
 at_deal reads same front deal line = if deal.is_withdrawn then Gone else at_live same (reads front deal.line) (handed_in reads front line)
 
 abbrev pub at_number : {P : Type 0} → (P → List ℕ → Option P) → (P → P → Bool) → P → Option Deal → List ℕ → Decision P
-at_number reads same front None line = taken (handed_in reads front line)
+at_number reads same front None line = at_next (handed_in reads front line)
 at_number reads same front (Some deal) line = at_deal reads same front deal line
 
 -- a line at a number: none is 0, and none is given beyond the next
@@ -87,7 +87,7 @@ pub record IsJudged {P : Type 0} (reads : P → List ℕ → Option P) (same : P
   pub start_is : book.start ≡ start
   pub is_text : IsBookText reads text book
   pub decision_is : judged.decision ≡ decided reads same book number request
-  pub front_is : judged.front ≡ (front_of reads book number).position
+  pub front_is : judged.front ≡ (front_before reads book number).position
   pub next_is : judged.next ≡ next_number book
   pub last_is : judged.last_live ≡ (whole reads book).last_live
   pub place_is : judged.place ≡ length (deals_text (take (number - 1) book.deals))

@@ -30,10 +30,10 @@ behind_deals reads front [] = front
 behind_deals reads front (deal ∷ deals) = behind_deals reads (behind_deal reads front deal) deals
 
 -- the game accepts the deal there; of a withdrawn one that isn't asked
-abbrev pub is_accepted : {P : Type 0} → (P → List ℕ → Option P) → P → Deal → Bool
-is_accepted reads position deal = deal.is_withdrawn || is_some (reads position deal.line)
+abbrev pub game_accepts : {P : Type 0} → (P → List ℕ → Option P) → P → Deal → Bool
+game_accepts reads position deal = deal.is_withdrawn || is_some (reads position deal.line)
 
 -- each live deal is accepted behind the live ones before it
 abbrev pub are_accepted : {P : Type 0} → (P → List ℕ → Option P) → Front P → List Deal → Bool
 are_accepted reads front [] = true
-are_accepted reads front (deal ∷ deals) = is_accepted reads front.position deal && are_accepted reads (behind_deal reads front deal) deals
+are_accepted reads front (deal ∷ deals) = game_accepts reads front.position deal && are_accepted reads (behind_deal reads front deal) deals

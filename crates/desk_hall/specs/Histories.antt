@@ -70,40 +70,40 @@ abbrev pub line_handed : Request → Option (List ℕ)
 line_handed (HandsIn line) = Some line
 line_handed Withdraws = None
 
-abbrev pub is_taken : {P : Type 0} → Decision P → Bool
-is_taken (Taken position) = true
-is_taken (Again position) = false
-is_taken (Another first other) = false
-is_taken Early = false
-is_taken Refused = false
-is_taken Gone = false
-is_taken Withdrawn = false
-is_taken GoneAlready = false
-is_taken NotLast = false
-is_taken NoDeal = false
+abbrev pub takes_line : {P : Type 0} → Decision P → Bool
+takes_line (Taken position) = true
+takes_line (Again position) = false
+takes_line (Another first other) = false
+takes_line Early = false
+takes_line Refused = false
+takes_line Gone = false
+takes_line Withdrawn = false
+takes_line GoneAlready = false
+takes_line NotLast = false
+takes_line NoDeal = false
 
-abbrev pub is_withdrawn : {P : Type 0} → Decision P → Bool
-is_withdrawn (Taken position) = false
-is_withdrawn (Again position) = false
-is_withdrawn (Another first other) = false
-is_withdrawn Early = false
-is_withdrawn Refused = false
-is_withdrawn Gone = false
-is_withdrawn Withdrawn = true
-is_withdrawn GoneAlready = false
-is_withdrawn NotLast = false
-is_withdrawn NoDeal = false
+abbrev pub withdraws_deal : {P : Type 0} → Decision P → Bool
+withdraws_deal (Taken position) = false
+withdraws_deal (Again position) = false
+withdraws_deal (Another first other) = false
+withdraws_deal Early = false
+withdraws_deal Refused = false
+withdraws_deal Gone = false
+withdraws_deal Withdrawn = true
+withdraws_deal GoneAlready = false
+withdraws_deal NotLast = false
+withdraws_deal NoDeal = false
 
 -- the line and the number of a turn whose line was taken
 abbrev pub line_taken : {P : Type 0} → Turn P → Option (List ℕ)
-line_taken turn = if is_taken turn.decision then line_handed turn.sent.request else None
+line_taken turn = if takes_line turn.decision then line_handed turn.sent.request else None
 
 abbrev pub number_taken : {P : Type 0} → Turn P → Option ℕ
-number_taken turn = if is_taken turn.decision then Some turn.sent.number else None
+number_taken turn = if takes_line turn.decision then Some turn.sent.number else None
 
 -- the turn withdrew the deal of a number
 abbrev pub withdrew : {P : Type 0} → ℕ → Turn P → Bool
-withdrew number turn = is_withdrawn turn.decision && turn.sent.number == number
+withdrew number turn = withdraws_deal turn.decision && turn.sent.number == number
 
 abbrev pub lines_taken : {P : Type 0} → List (Turn P) → List (List ℕ)
 lines_taken turns = filter_map line_taken turns

@@ -1,10 +1,10 @@
 -- What holds of whole histories of messages, whatever comes.
 use Rattle.std.specs.Prelude.{◌≡◌, ℕ, suc, ◌-◌, ◌<◌, List, ◌∷◌, [], ◌++◌, map, length, take, drop, Bool, false, ◌||◌, Option, Some, None, option_map, slice_get, if◌then◌else◌}
 use Rattle.std.specs.List.{list_any}
-use Rattle.desk_hall.specs.Books.{Book, front_of, deal_at, next_number, IsBookText}
+use Rattle.desk_hall.specs.Books.{Book, front_before, deal_at, next_number, IsBookText}
 use Rattle.desk_hall.specs.Deals.{Deal, live, ended, gone_words, deals_text}
 use Rattle.desk_hall.specs.Decided.{Request, HandsIn, Withdraws}
-use Rattle.desk_hall.specs.Histories.{Sent, comes_to, next_book, book_after, turns_from, is_taken, is_withdrawn, withdrew, lines_taken, numbers_taken, numbers_from, Posted, hall_after, sent_to}
+use Rattle.desk_hall.specs.Histories.{Sent, comes_to, next_book, book_after, turns_from, takes_line, withdraws_deal, withdrew, lines_taken, numbers_taken, numbers_from, Posted, hall_after, sent_to}
 use Rattle.desk_hall.specs.declared.decision.Decision.{Decision}
 use Rattle.desk_hall.specs.declared.decision.Decision.TheVariants.{Taken, Again, Another, Early, Refused, Gone, Withdrawn, GoneAlready, NotLast, NoDeal}
 
@@ -36,7 +36,7 @@ FrontsStay {P} reads same = (book : Book P) (messages : List Sent) (place : ℕ)
 -- A line that is taken is answered by how far it brings the game behind the live deals before it, at the next number.
 abbrev pub TakenFromItsFront : {P : Type 0} → (P → List ℕ → Option P) → (P → P → Bool) → Type 0
 TakenFromItsFront {P} reads same = (book : Book P) (sent : Sent) (position : P) → comes_to reads same book sent ≡ Taken position
-    → (sent.number ≡ next_number book) × ((line : List ℕ) × (book.deals ++ live line ∷ [] ≡ (next_book reads same book sent).deals) × (reads (front_of reads book sent.number).position line ≡ Some position))
+    → (sent.number ≡ next_number book) × ((line : List ℕ) × (book.deals ++ live line ∷ [] ≡ (next_book reads same book sent).deals) × (reads (front_before reads book sent.number).position line ≡ Some position))
 
 -- The same outcome at the same number is answered as the first time, whatever came between.
 abbrev pub AgainAsTheFirst : {P : Type 0} → (P → List ℕ → Option P) → (P → P → Bool) → Type 0
@@ -57,7 +57,7 @@ DoubledIsAgain {P} reads same = (book : Book P) (first : Sent) (between : List S
 
 -- What is neither taken nor withdrawn changes nothing.
 abbrev pub OthersChangeNothing : {P : Type 0} → (P → List ℕ → Option P) → (P → P → Bool) → Type 0
-OthersChangeNothing {P} reads same = (book : Book P) (sent : Sent) → is_taken (comes_to reads same book sent) ≡ false → is_withdrawn (comes_to reads same book sent) ≡ false
+OthersChangeNothing {P} reads same = (book : Book P) (sent : Sent) → takes_line (comes_to reads same book sent) ≡ false → withdraws_deal (comes_to reads same book sent) ≡ false
     → next_book reads same book sent ≡ book
 
 -- A table's book comes from the messages to that table alone, and no table comes or goes.

@@ -19,6 +19,6 @@ IsReplyOf reads same table number request NoTable = ⊥
 IsReplyOf reads same table number request NoBook = MeetsFault reads (first_front table.start) table.deals.now
 IsReplyOf reads same table number request (Judged judged) = IsJudged reads same table.start table.deals.now number request judged
 
-abbrev pub IsReply : {P : Type 0} → (P → List ℕ → Option P) → (P → P → Bool) → Option (Table P) → ℕ → Request → Reply P → Type 0
-IsReply reads same None number request reply = reply ≡ NoTable
-IsReply reads same (Some table) number request reply = IsReplyOf reads same table number request reply
+abbrev pub IsHallReply : {P : Type 0} → (P → List ℕ → Option P) → (P → P → Bool) → Option (Table P) → ℕ → Request → Reply P → Type 0
+IsHallReply reads same None number request reply = reply ≡ NoTable
+IsHallReply reads same (Some table) number request reply = IsReplyOf reads same table number request reply

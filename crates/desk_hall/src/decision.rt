@@ -47,8 +47,8 @@ pub(crate) fn handed_in<P: Position>(front: &P, line: &[u8]) -> Option<P>
 }
 
 /// What a line comes to at the next number.
-pub(crate) fn taken<P: Position>(front: &P, line: &[u8]) -> Decision<P>
-    ensures { result ≡ spec.taken (spec.handed_in P.reads front.now line.now) }
+pub(crate) fn at_next<P: Position>(front: &P, line: &[u8]) -> Decision<P>
+    ensures { result ≡ spec.at_next (spec.handed_in P.reads front.now line.now) }
 {
     match handed_in(front, line) {
         None => Decision::Refused,
@@ -57,7 +57,7 @@ pub(crate) fn taken<P: Position>(front: &P, line: &[u8]) -> Decision<P>
 }
 
 /// What a line comes to at a number that is taken by another line.
-pub(crate) fn beside<P: Position>(front: &P, first: &[u8], line: &[u8]) -> Decision<P>
+pub(crate) fn at_live<P: Position>(front: &P, first: &[u8], line: &[u8]) -> Decision<P>
     ensures { result ≡ spec.at_live P.same (P.reads front.now first.now)
         (spec.handed_in P.reads front.now line.now) }
 {

@@ -46,7 +46,7 @@ pub enum Reply<P> {
 
 /// What a message comes to, by the book of its table alone.
 pub fn judge<P: Position>(tables: &[Table<'_, P>], message: &Message<'_>) -> Reply<P>
-    ensures { spec.IsReply P.reads P.same (slice_get tables.now message.now.table)
+    ensures { spec.IsHallReply P.reads P.same (slice_get tables.now message.now.table)
         message.now.number (spec.request_in message.now.asked) result }
 {
     let Some(table) = tables.get(message.table) else {

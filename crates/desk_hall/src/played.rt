@@ -60,7 +60,7 @@ pub(crate) fn play_on<'t, P: Position>(
 
 /// Whether no text is left, or there are as many deals as were asked for.
 fn stops(count: u64, rest: &[u8], most: Option<u64>) -> bool
-    ensures yes { result ≡ true → (rest.now ≡ []) ⊎ spec.HasAll most count }
+    ensures yes { result ≡ true → (rest.now ≡ []) ⊎ spec.HasSoMany most count }
     ensures text { result ≡ false → rest.now ≡ [] → ⊥ }
     ensures no { result ≡ false → spec.MayHave most count → spec.MayHave most (count + 1) }
 {
@@ -74,8 +74,8 @@ fn stops(count: u64, rest: &[u8], most: Option<u64>) -> bool
 pub(crate) fn with_deal<P: Position>(played: &Played<P>, deal: DealLine<'_>) -> Option<Played<P>>
     requires { played.now.count + 1 ≤ 18446744073709551615 }
     ensures { MatchOption result
-        (fronts.is_accepted P.reads played.now.position (deal_by deal.entry) ≡ false)
-        (λ next. (fronts.is_accepted P.reads played.now.position (deal_by deal.entry) ≡ true)
+        (fronts.game_accepts P.reads played.now.position (deal_by deal.entry) ≡ false)
+        (λ next. (fronts.game_accepts P.reads played.now.position (deal_by deal.entry) ≡ true)
         × (spec.front_in next ≡ fronts.behind_deal P.reads (spec.front_in played.now) (deal_by deal.entry))) }
 {
     let count = played.count + 1;

@@ -8,7 +8,7 @@ ghost use Rattle.desk_hall.specs.Playing.{MeetsFault};
 ghost use Rattle.desk_hall.specs.Seeing.{seen_by, IsSeen};
 
 use crate::deal::{DealLine, next_deal};
-use crate::decision::{Decision, beside, taken};
+use crate::decision::{Decision, at_live, at_next};
 use crate::played::{before_first, play_on, with_deal};
 use crate::position::Position;
 
@@ -80,9 +80,9 @@ pub(crate) fn line_decided<P: Position>(
         return Decision::Early;
     }
     match sight.deal {
-        None => taken(&sight.front, line),
+        None => at_next(&sight.front, line),
         Some(deal) if deal.is_withdrawn => Decision::Gone,
-        Some(deal) => beside(&sight.front, deal.line, line),
+        Some(deal) => at_live(&sight.front, deal.line, line),
     }
 }
 

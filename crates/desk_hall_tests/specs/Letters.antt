@@ -3,6 +3,6 @@ use Rattle.std.specs.Prelude.{ℕ, ◌==◌, List, [], ◌∷◌, Option, None, 
 use Rattle.desk_hall_tests.specs.declared.letters.Letter.{Letter}
 
 -- a line says its first byte, which has to be another one than the last
-abbrev pub letter_in : Letter → List ℕ → Option Letter
-letter_in last [] = None
-letter_in last (byte ∷ bytes) = if byte == last.said then None else Some (record { said = byte })
+abbrev pub letter_after : Letter → List ℕ → Option Letter
+letter_after last [] = None
+letter_after last (byte ∷ bytes) = if byte == last.said then None else Some (record { said = byte })

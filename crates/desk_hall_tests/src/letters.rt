@@ -14,9 +14,9 @@ impl Position for Letter {
     ghost use Rattle.std.proofs.Common.{refl};
     ghost use Rattle.std.proofs.lemmas.Bool.{eq-eqb};
     ghost use Rattle.std.specs.Prelude.{◌==◌};
-    ghost use Rattle.desk_hall_tests.specs.Letters.{letter_in};
+    ghost use Rattle.desk_hall_tests.specs.Letters.{letter_after};
 
-    ghost reads = { λ last line. letter_in last line };
+    ghost reads = { λ last line. letter_after last line };
 
     ghost same = { λ one other. one.said == other.said };
 

@@ -9,3 +9,4 @@ pub mod RulesRead
 pub mod GameTables
 pub mod Games
 pub mod GameLines
+pub mod Hall

@@ -13,6 +13,7 @@ mod game_hands;
 mod game_lines;
 mod game_rows;
 mod games;
+mod hall;
 mod json;
 mod json_reasons;
 mod lines;
@@ -30,6 +31,7 @@ pub use games::{
     riichi_game_after, riichi_game_finals, riichi_game_first, riichi_game_moves, riichi_game_table,
     riichi_game_table_fault,
 };
+pub use hall::{riichi_hall_hand_in, riichi_hall_withdraw};
 pub use json::riichi_json;
 pub use json_reasons::riichi_explain_json;
 pub use lines::{

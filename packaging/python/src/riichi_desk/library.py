@@ -29,6 +29,8 @@ _ARGUMENTS: dict[str, list[Any]] = {
     "riichi_wins": [_RULES, *[_AT, _SIZE] * 2],
     "riichi_game_after": [_AT, _AT, _AT, _SIZE, _AT],
     "riichi_game_lines": [_RULES, ctypes.c_char_p, _SIZE, _SIZE, _AT, _SIZE, ctypes.POINTER(_SIZE)],
+    "riichi_hall_hand_in": [_RULES, ctypes.c_char_p, _SIZE, ctypes.c_uint64, ctypes.c_char_p, _SIZE, _AT, _SIZE, _AT],
+    "riichi_hall_withdraw": [_RULES, ctypes.c_char_p, _SIZE, ctypes.c_uint64, _AT, _SIZE, _AT],
 }
 _OF_GAMES: dict[str, list[Any]] = {
     "riichi_game_table": [_WORD, _AT],

@@ -1,0 +1,4 @@
+pub mod Positions
+pub mod Opened
+pub mod Texts
+pub mod Rows
