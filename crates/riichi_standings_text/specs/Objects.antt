@@ -18,8 +18,8 @@ abbrev pub json_name : List ℕ → List ℕ
 json_name name = flat_map json_character (chars name)
 
 -- `{"place":1,"name":"Fay"`
-abbrev pub place_members : List ℕ → Standing → List ℕ
-place_members name standing = codes "{\"place\":" ++ decimal standing.place ++ codes ",\"name\":\"" ++ json_name name
+abbrev pub place_and_name : List ℕ → Standing → List ℕ
+place_and_name name standing = codes "{\"place\":" ++ decimal standing.place ++ codes ",\"name\":\"" ++ json_name name
 
 -- `,"total":27200,"games":2`
 abbrev pub total_members : Standing → List ℕ
@@ -30,9 +30,9 @@ abbrev pub best_members : Standing → List ℕ
 best_members standing = codes ",\"firsts\":" ++ decimal standing.tally.firsts ++ codes ",\"best\":" ++ signed_decimal standing.tally.best
 
 -- a comma, but before the first
-abbrev pub comma_if : Bool → List ℕ
-comma_if true = codes ","
-comma_if false = []
+abbrev pub comma_before : Bool → List ℕ
+comma_before true = codes ","
+comma_before false = []
 
 -- points, or null for no game
 abbrev pub points_or_null : Option ℤ → List ℕ
@@ -40,14 +40,14 @@ points_or_null None = codes "null"
 points_or_null (Some points) = signed_decimal points
 
 abbrev pub column_value : Columns → List SeatResult → ℕ → List ℕ
-column_value columns own column = comma_if (nat_lt columns.first column) ++ points_or_null (points_at columns column own)
+column_value columns own column = comma_before (nat_lt columns.first column) ++ points_or_null (points_at columns column own)
 
 -- `,"sessions":[26300,null]}`, and the end of the line
 abbrev pub sessions_member : Columns → List SeatResult → List ℕ
 sessions_member columns own = codes ",\"sessions\":[" ++ flat_map (column_value columns own) (column_numbers columns) ++ codes "]}\n"
 
 abbrev pub front_members : List ℕ → Standing → List ℕ
-front_members name standing = place_members name standing ++ total_members standing ++ best_members standing
+front_members name standing = place_and_name name standing ++ total_members standing ++ best_members standing
 
 -- the object of a player, on a line
 unfoldable pub standing_object : Columns → Games → Standing → List ℕ

@@ -20,14 +20,14 @@ abbrev pub sessions_in_a_line : ℕ → ℕ
 sessions_in_a_line name = max ((80 - (24 + name)) / 8) 1
 
 -- a session goes on in the line where it is the first of all, or not the first of a further line
-abbrev pub goes_on : ℕ → ℕ → Bool
-goes_on name before = (before == 0) || not (before % sessions_in_a_line name == 0)
+abbrev pub stays_in_line : ℕ → ℕ → Bool
+stays_in_line name before = (before == 0) || not (before % sessions_in_a_line name == 0)
 
 abbrev pub break_text : ℕ → Bool → List ℕ
-break_text name goes_on = if goes_on then [] else codes "\n" ++ blanks 24 ++ blanks name
+break_text name stays_in_line = if stays_in_line then [] else codes "\n" ++ blanks 24 ++ blanks name
 
 abbrev pub break_before : ℕ → Columns → ℕ → List ℕ
-break_before name columns column = break_text name (goes_on name (column - columns.first))
+break_before name columns column = break_text name (stays_in_line name (column - columns.first))
 
 -- ---- the names of the columns
 

@@ -56,7 +56,7 @@ fn push_front(text: &mut String, name: &str, standing: &Standing) -> Result<(), 
 
 fn push_place(text: &mut String, name: &str, standing: &Standing) -> Result<(), AllocError>
     ensures { OnOk result (string_bytes text.new
-        ≡ string_bytes text.old ++ spec.place_members name.now standing.now) }
+        ≡ string_bytes text.old ++ spec.place_and_name name.now standing.now) }
 {
     text.push_str("{\"place\":")?;
     push_count(text, standing.place as u64)?;
@@ -131,7 +131,7 @@ fn push_columns(text: &mut String, columns: &Columns, own: &[SeatResult]) -> Res
 
 fn push_comma(text: &mut String, is_told: bool) -> Result<(), AllocError>
     ensures { OnOk result (string_bytes text.new
-        ≡ string_bytes text.old ++ spec.comma_if is_told) }
+        ≡ string_bytes text.old ++ spec.comma_before is_told) }
 {
     text.push_str(if is_told { "," } else { "" })
 }
