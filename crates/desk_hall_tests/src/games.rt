@@ -1,6 +1,5 @@
 //! Books of games of four: what a text opens as, and what messages to a book are answered.
 use super::facts::same_in;
-use arrayvec::ArrayVec;
 use desk_hall::{Asked, hand_in, withdraw};
 use desk_hall_games::{JudgedRow, open_book, push_answer};
 use riichi_hand::Rules;
@@ -21,10 +20,15 @@ const FIRST: &str =
 
 /// What a message to a book comes to under the first profile: the number and place of the row, its verdict, and the answer's bytes.
 fn told(text: &[u8], number: u64, asked: Asked<'_>) -> Option<((u32, u64, u64), AnswerText)> {
-    let (start, deals) = open_book(Rules::One, text)?;
+    let Some((start, deals)) = open_book(Rules::One, text) else {
+        return None;
+    };
     let judged = match asked {
-        Asked::Line(line) => hand_in(&start, deals, number, line)?,
-        Asked::Withdrawal => withdraw(&start, deals, number)?,
+        Asked::Line(line) => hand_in(&start, deals, number, line),
+        Asked::Withdrawal => withdraw(&start, deals, number),
+    };
+    let Some(judged) = judged else {
+        return None;
     };
     let row = JudgedRow::of(&judged, text.len() - deals.len());
     let mut answer = AnswerText::new();
@@ -112,16 +116,10 @@ fn what_changes_nothing_says_why(rt: HostRuntime) {
 
 #[test]
 fn a_line_too_long_for_a_book_is_refused(rt: HostRuntime) {
-    let mut line: ArrayVec<u8, 5000> = ArrayVec::new();
-    for byte in b"draw" {
-        line.push(*byte);
-    }
-    for _ in 0..4080 {
-        line.push(b' ');
-    }
+    let mut line = [b' '; 4085];
+    line[..4].copy_from_slice(b"draw");
     let draw = "east 2 counters 0 sticks 0 changes 0 0 0 0 points 30000 31000 29000 30000";
-    is_told(&rt, 4, Asked::Line(&line), 1, END, draw);
-    line.push(b' ');
+    is_told(&rt, 4, Asked::Line(&line[..4084]), 1, END, draw);
     is_told(&rt, 4, Asked::Line(&line), 5, END, "refused G1");
 }
 
