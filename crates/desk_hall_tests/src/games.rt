@@ -30,6 +30,9 @@ fn told(text: &[u8], number: u64, asked: Asked<'_>) -> Option<((u32, u64, u64), 
     let Some(judged) = judged else {
         return None;
     };
+    if judged.place > deals.len() {
+        return None;
+    }
     let row = JudgedRow::of(&judged, text.len() - deals.len());
     let mut answer = AnswerText::new();
     push_answer(&mut answer, number, asked, &judged);
