@@ -10,7 +10,10 @@ mod kinds;
 mod pen;
 mod tiles;
 
-use deeper::{calls, random_hand, random_tile, Hand, Known};
+use deeper::calls::calls;
+use deeper::distance::Known;
+use deeper::hand::Hand;
+use deeper::random::{random_hand, random_tile};
 use input::Dice;
 use tiles::{Counts, Meld};
 
