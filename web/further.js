@@ -57,7 +57,7 @@ export function furtherParts(answer, { line }) {
   const fill = () => {
     state.isFurther = part.open;
     if (part.open && part.childElementCount === 1) {
-      part.append(shownTable(answer, line), make("p", { class: "lacking" }, phrase("further help")));
+      part.append(shownTable(answer, line), make("p", { class: "further-help" }, phrase("further help")));
     }
   };
   part.addEventListener("toggle", fill);
