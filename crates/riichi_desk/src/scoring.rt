@@ -140,7 +140,7 @@ fn limited<'a, R: Files + AllocGlobal>(
     files: &[&'a str],
     failure: Failure<'a>,
 ) -> Failure<'a>
-    ensures { IsLimited failure result }
+    ensures { IsLimited failure.entry result }
 {
     match failure {
         Failure::Fault(ScoreFault::Range) => {
