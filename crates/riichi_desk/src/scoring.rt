@@ -65,10 +65,10 @@ impl ScoreLimit<'_> {
 }
 
 /// Answers the record lines of files on standard output, table by table: whether a line is refused.
-pub fn score_files<'a, R: Files + Print + Eprint + Clock + Threads + Sync + AllocGlobal>(
+pub fn score_files<'n, 'a, R: Files + Print + Eprint + Clock + Threads + Sync + AllocGlobal>(
     rt: &R,
-    notes: &Notes<'a>,
-    progress: &Progress<'_, R>,
+    notes: &'n Notes<'a>,
+    progress: &'n Progress<'n, R>,
     files: &[&'a str],
     scoring: Scoring,
 ) -> Result<bool, Failure<'a>>
