@@ -66,7 +66,7 @@ impl ScoreLimit<'_> {
 
 /// Answers the record lines of files on standard output, table by table: whether a line is refused.
 pub fn score_files<'n, 'a, R: Files + Print + Eprint + Clock + Threads + Sync + AllocGlobal>(
-    rt: &R,
+    rt: &'n R,
     notes: &'n Notes<'a>,
     progress: &'n Progress<'n, R>,
     files: &[&'a str],
