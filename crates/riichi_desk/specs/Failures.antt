@@ -76,15 +76,15 @@ IsUnknownRule text (failures.UnknownRule word nearest) = (word.now ≡ before_fi
 IsUnknownRule text failure = failure ≡ failures.Fault fault_names.Memory
 
 -- a file has too many hands
-abbrev pub IsOfHands : Failure → Type 0
-IsOfHands (failures.Score (limits.Hands file)) = Unit {0}
+abbrev pub IsOfHands : Result Bool Failure → Type 0
+IsOfHands (Err (failures.Score (limits.Hands file))) = Unit {0}
 IsOfHands other = ⊥
 
 -- of the failures of a score too many hands and want of memory are told as its limits
-abbrev pub IsLimited : Failure → Failure → Type 0
-IsLimited (failures.Fault fault_names.Range) told = IsOfHands told
-IsLimited (failures.Fault fault_names.Memory) told = told ≡ failures.Score limits.Memory
-IsLimited failure told = told ≡ failure
+abbrev pub IsLimited : Result Bool Failure → Result Bool Failure → Type 0
+IsLimited (Err (failures.Fault fault_names.Range)) told = IsOfHands told
+IsLimited (Err (failures.Fault fault_names.Memory)) told = told ≡ Err (failures.Score limits.Memory)
+IsLimited outcome told = told ≡ outcome
 
 -- the answers could not be written
 abbrev pub IsUnwritten : Failure → Type 0

@@ -177,16 +177,14 @@ impl<'a> Notes<'a> {
 }
 
 impl<R: Eprint + Clock, T> Watched<'_, '_, R, T> {
-    /// Says what the first bytes show, where these are the ones that show it.
-    fn look(&mut self, bytes: &[u8]) {
-        if let Some(sign) = self.opening.sign_by(bytes) {
-            if self.is_of_lines || sign != Sign::Games {
-                let words = SignWords {
-                    name: self.reader.name,
-                    sign,
-                };
-                let _ = eprintln!(self.progress.wiped(); "{words}");
-            }
+    /// Says what the first bytes show, unless they show the text that is wanted.
+    fn tell(&self, sign: Sign) {
+        if self.is_of_lines || sign != Sign::Games {
+            let words = SignWords {
+                name: self.reader.name,
+                sign,
+            };
+            let _ = eprintln!(self.progress.wiped(); "{words}");
         }
     }
 }
@@ -199,7 +197,9 @@ impl<R: Eprint + Clock, T: Read> Read for Watched<'_, '_, R, T> {
         match buffer.get(..count) {
             None | Some([]) => self.progress.wipe(),
             Some(bytes) => {
-                self.look(bytes);
+                if let Some(sign) = self.opening.sign_by(bytes) {
+                    self.tell(sign);
+                }
                 self.progress.read(bytes);
             }
         }

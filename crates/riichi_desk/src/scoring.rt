@@ -78,19 +78,41 @@ pub fn score_files<'a, R: Files + Print + Eprint + Clock + Threads + Sync + Allo
     if are_too_many(files) {
         return Err(Failure::Score(ScoreLimit::Files(files.len())));
     }
+    let rules = scoring.rules;
+    let outcome = score_opened(rt, notes, progress, files, scoring);
+    if outcome.is_ok() {
+        tell_all_winners(rt, progress, rules, files);
+    }
+    limited(rt, rules, files, outcome)
+}
+
+/// The same of no more files than tables may be, without what is said of winners.
+fn score_opened<'a, R: Files + Print + Eprint + Clock + Threads + Sync + AllocGlobal>(
+    rt: &R,
+    notes: &Notes<'a>,
+    progress: &Progress<'_, R>,
+    files: &[&'a str],
+    scoring: Scoring,
+) -> Result<bool, Failure<'a>> {
     let readers = open_files(rt, notes, progress, files)?;
     let mut writer = ToWriter::new(notes.output(rt));
-    let report = match score_readers(rt, scoring, files, readers, &mut writer) {
-        Ok(report) => report,
-        Err(failure) => return Err(limited(rt, scoring.rules, files, failure)),
-    };
+    let report = score_readers(rt, scoring, files, readers, &mut writer)?;
     for (name, slip) in files.iter().zip(report.slips.as_slice()) {
         tell_slip(progress, *name, slip);
     }
-    for file in files {
-        tell_winners(rt, progress, scoring.rules, *file);
-    }
     Ok(is_refused(&report))
+}
+
+/// Says of each file which of its wins are paid what the win before them was paid.
+fn tell_all_winners<R: Files + Eprint + Clock + AllocGlobal>(
+    rt: &R,
+    progress: &Progress<'_, R>,
+    rules: Rules,
+    files: &[&str],
+) {
+    for file in files {
+        tell_winners(rt, progress, rules, *file);
+    }
 }
 
 /// Whether there are more files than tables may be.
@@ -133,20 +155,22 @@ fn score_readers<'a, S: Source + Drop, W: Sink, R: Threads + Sync + AllocGlobal>
     Ok(score_text_with(rt, rt.alloc(), rules, names, readers, workers, writer)?)
 }
 
-/// The failure of a score, by the limit that it met where it met one: the file is looked for that has more hands than it may.
+/// The outcome of a score, a failure by the limit that it met where it met one: the file is looked for that has more hands than it
+/// may.
 fn limited<'a, R: Files + AllocGlobal>(
     rt: &R,
     rules: Rules,
     files: &[&'a str],
-    failure: Failure<'a>,
-) -> Failure<'a>
-    ensures { IsLimited failure result }
+    outcome: Result<bool, Failure<'a>>,
+) -> Result<bool, Failure<'a>>
+    ensures { IsLimited outcome.entry result }
 {
-    match failure {
-        Failure::Fault(ScoreFault::Range) => {
-            Failure::Score(ScoreLimit::Hands(longest_file(rt, rules, files)))
+    match outcome {
+        Err(Failure::Fault(ScoreFault::Range)) => {
+            let file = longest_file(rt, rules, files);
+            Err(Failure::Score(ScoreLimit::Hands(file)))
         }
-        Failure::Fault(ScoreFault::Memory) => Failure::Score(ScoreLimit::Memory),
+        Err(Failure::Fault(ScoreFault::Memory)) => Err(Failure::Score(ScoreLimit::Memory)),
         other => other,
     }
 }
