@@ -10,8 +10,9 @@ from browser import Browser
 from page_game import PHONE, begin_game, control, game_text
 from page_rows import LINE, PAGE, fresh, said_of, told
 
-SHOWN = """['game', 'game-fields', 'answer'].map(id => document.getElementById(id).innerText).join() +
-  document.documentElement.dataset.game + document.getElementById('tray').innerHTML"""
+# What a person sees: of what is hidden nothing has to last, as the tiles of a hand that was left.
+SHOWN = """['game', 'game-fields', 'answer', 'tray'].map(id => document.getElementById(id)).filter(it => it.checkVisibility())
+  .map(it => it.id === 'tray' ? it.innerHTML : it.innerText).join() + document.documentElement.dataset.game"""
 CONTROLS = "[...document.querySelectorAll('#game button, #game-fields button, #picker .on-tile, #fields label, #count')]"
 
 
