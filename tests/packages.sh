@@ -212,6 +212,8 @@ if [ -f "$portable" ]; then
   same 'one file of C: line' wanted "$shelf/portable" line
   cc -O1 -Iinclude tests/many_lines.c "$shelf/portable.o" -o "$shelf/many-portable"
   told 'one file of C: many lines' 'all right' "$("$shelf/many-portable" "$shelf/long" 2>&1)"
+  cc -O1 -Iinclude tests/calls.c "$shelf/portable.o" -o "$shelf/calls-portable"
+  told 'one file of C: what each call tells' 'all right' "$("$shelf/calls-portable" 2>&1)"
   cc -O1 -Iinclude tests/fuzz_arrays.c "$shelf/portable.o" -o "$shelf/arrays-portable"
   told 'one file of C: hands as arrays' '16 calls of each, no difference' "$("$shelf/arrays-portable" 0 1 2>&1)"
   cc -O1 -Iinclude tests/fuzz_lines.c "$shelf/portable.o" -o "$shelf/rows-portable"

@@ -4,7 +4,7 @@
 
 enum { MOST_HANDS = 480, MOST_DISCARDS = 240 };
 /* Each array has a place of its own, which is large enough for a piece of it. */
-enum { COUNTS = GIVEN, PLACE_GIVEN = PAGE / 4, MELDS = COUNTS + PLACE_GIVEN, SEEN = MELDS + PLACE_GIVEN };
+enum { COUNTS = GIVEN, PLACE_GIVEN = PAGE / 4, MELDS = COUNTS + PLACE_GIVEN, SEEN = MELDS + PLACE_GIVEN, THROWN = SEEN + PLACE_GIVEN };
 enum { COLUMN_0 = TOLD, COLUMN_1 = TOLD + PAGE, COLUMN_2 = COLUMN_1 + PAGE, COLUMN_3 = COLUMN_2 + PAGE };
 
 /* An array that a call is given, or a column that it fills: where, how many rows, and of how many bytes each. */
@@ -24,14 +24,14 @@ static size_t lend(uint8_t *place, struct given given, size_t start, size_t hand
 typedef u64 call_of_piece(size_t hands, size_t melds, size_t seen);
 
 static size_t ask_rows(
-    call_of_piece *call, size_t most, const struct given given[3], const struct column *columns, int columns_len) {
+    call_of_piece *call, size_t most, const struct given given[4], const struct column *columns, int columns_len) {
     uint8_t *own = memory();
     size_t rows = given[0].len;
     for (int i = 0; i < columns_len; i++) rows = lesser(rows, columns[i].len);
     for (size_t start = 0, hands; start < rows; start += hands) {
         hands = lesser(rows - start, most);
-        size_t lent[3];
-        for (int i = 0; i < 3; i++) lent[i] = lend(own + COUNTS + i * PLACE_GIVEN, given[i], start, hands);
+        size_t lent[4];
+        for (int i = 0; i < 4; i++) lent[i] = lend(own + COUNTS + i * PLACE_GIVEN, given[i], start, hands);
         call(hands, lent[1], lent[2]);
         for (int i = 0; i < columns_len; i++) {
             size_t width = columns[i].width;
@@ -49,7 +49,7 @@ static u64 shantens_of(size_t hands, size_t melds, size_t seen) {
 
 size_t riichi_shantens(const uint8_t (*counts)[34], size_t counts_len, const uint8_t (*melds)[4], size_t melds_len,
     int8_t *shanten, size_t shanten_len) {
-    const struct given given[3] = {{counts, counts_len, 34}, {melds, melds_len, 4}, {NULL, 0, 34}};
+    const struct given given[4] = {{counts, counts_len, 34}, {melds, melds_len, 4}, {NULL, 0, 34}};
     const struct column columns[] = {{shanten, shanten_len, 1}};
     return ask_rows(shantens_of, MOST_HANDS, given, columns, 1);
 }
@@ -63,7 +63,7 @@ static u64 shapes_of(size_t hands, size_t melds, size_t seen) {
 size_t riichi_shapes(const uint8_t (*counts)[34], size_t counts_len, const uint8_t (*melds)[4], size_t melds_len,
     const uint8_t (*seen)[34], size_t seen_len, int8_t *shanten, size_t shanten_len, uint64_t *accepts, size_t accepts_len,
     uint8_t (*live)[34], size_t live_len) {
-    const struct given given[3] = {{counts, counts_len, 34}, {melds, melds_len, 4}, {seen, seen_len, 34}};
+    const struct given given[4] = {{counts, counts_len, 34}, {melds, melds_len, 4}, {seen, seen_len, 34}};
     const struct column columns[] = {{shanten, shanten_len, 1}, {accepts, accepts_len, 8}, {live, live_len, 34}};
     return ask_rows(shapes_of, MOST_HANDS, given, columns, 3);
 }
@@ -77,7 +77,7 @@ static u64 discards_of(size_t hands, size_t melds, size_t seen) {
 size_t riichi_discards(const uint8_t (*counts)[34], size_t counts_len, const uint8_t (*melds)[4], size_t melds_len,
     const uint8_t (*seen)[34], size_t seen_len, int8_t *shanten, size_t shanten_len, uint64_t *kinds, size_t kinds_len,
     uint64_t (*accepts)[34], size_t accepts_len, uint8_t (*live)[34], size_t live_len) {
-    const struct given given[3] = {{counts, counts_len, 34}, {melds, melds_len, 4}, {seen, seen_len, 34}};
+    const struct given given[4] = {{counts, counts_len, 34}, {melds, melds_len, 4}, {seen, seen_len, 34}};
     const struct column columns[] = {
         {shanten, shanten_len, 1}, {kinds, kinds_len, 8}, {accepts, accepts_len, 8 * 34}, {live, live_len, 34}};
     return ask_rows(discards_of, MOST_DISCARDS, given, columns, 4);
@@ -92,31 +92,24 @@ static u64 deeper_of(size_t hands, size_t melds, size_t seen) {
 size_t riichi_deeper(const uint8_t (*counts)[34], size_t counts_len, const uint8_t (*melds)[4], size_t melds_len,
     const uint8_t (*seen)[34], size_t seen_len, int8_t *shanten, size_t shanten_len, uint16_t *second, size_t second_len,
     uint8_t *good, size_t good_len) {
-    const struct given given[3] = {{counts, counts_len, 34}, {melds, melds_len, 4}, {seen, seen_len, 34}};
+    const struct given given[4] = {{counts, counts_len, 34}, {melds, melds_len, 4}, {seen, seen_len, 34}};
     const struct column columns[] = {{shanten, shanten_len, 1}, {second, second_len, 2}, {good, good_len, 1}};
     return ask_rows(deeper_of, MOST_HANDS, given, columns, 3);
 }
 
-/* (the thrown tiles of a piece lie in a column that this call doesn't fill) */
 static u64 calls_of(size_t hands, size_t melds, size_t seen) {
     assert(hands <= MOST_DISCARDS);
-    return Z_deskZ_riichi_calls(&module, COUNTS, hands, MELDS, melds, SEEN, seen, COLUMN_3, hands, COLUMN_0, hands, COLUMN_1, hands,
+    return Z_deskZ_riichi_calls(&module, COUNTS, hands, MELDS, melds, SEEN, seen, THROWN, hands, COLUMN_0, hands, COLUMN_1, hands,
         COLUMN_2, hands);
 }
 
 size_t riichi_calls(const uint8_t (*counts)[34], size_t counts_len, const uint8_t (*melds)[4], size_t melds_len,
     const uint8_t (*seen)[34], size_t seen_len, const uint8_t (*thrown)[2], size_t thrown_len, uint8_t (*called)[4], size_t called_len,
     uint64_t (*kinds)[4], size_t kinds_len, uint8_t (*live)[4][34], size_t live_len) {
-    size_t rows = lesser(lesser(counts_len, thrown_len), lesser(called_len, lesser(kinds_len, live_len)));
-    for (size_t start = 0, hands; start < rows; start += hands) {
-        hands = lesser(rows - start, MOST_DISCARDS);
-        const struct given given[3] = {{counts + start, hands, 34}, {melds_len > start ? melds + start : melds, melds_len > start ? melds_len - start : 0, 4},
-            {seen_len > start ? seen + start : seen, seen_len > start ? seen_len - start : 0, 34}};
-        const struct column columns[] = {{called + start, hands, 4}, {kinds + start, hands, 32}, {live + start, hands, 136}};
-        memcpy(memory() + COLUMN_3, thrown + start, 2 * hands);
-        ask_rows(calls_of, MOST_DISCARDS, given, columns, 3);
-    }
-    return rows;
+    const struct given given[4] = {
+        {counts, lesser(counts_len, thrown_len), 34}, {melds, melds_len, 4}, {seen, seen_len, 34}, {thrown, thrown_len, 2}};
+    const struct column columns[] = {{called, called_len, 4}, {kinds, kinds_len, 4 * 8}, {live, live_len, 4 * 34}};
+    return ask_rows(calls_of, MOST_DISCARDS, given, columns, 3);
 }
 
 static u64 waits_of(size_t hands, size_t melds, size_t seen) {
@@ -126,7 +119,7 @@ static u64 waits_of(size_t hands, size_t melds, size_t seen) {
 
 size_t riichi_waits_of(const uint8_t (*counts)[34], size_t counts_len, const uint8_t (*melds)[4], size_t melds_len,
     uint64_t *kinds, size_t kinds_len) {
-    const struct given given[3] = {{counts, counts_len, 34}, {melds, melds_len, 4}, {NULL, 0, 34}};
+    const struct given given[4] = {{counts, counts_len, 34}, {melds, melds_len, 4}, {NULL, 0, 34}};
     const struct column columns[] = {{kinds, kinds_len, 8}};
     return ask_rows(waits_of, MOST_HANDS, given, columns, 1);
 }
