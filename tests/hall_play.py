@@ -139,17 +139,19 @@ class Seat:
 
 @dataclass
 class Pace:
-    """How a game is played: how many deals, how many seconds between two of one phone, how many of them pass the deal on."""
+    """How a game is played: how many deals, how many seconds between two of one phone, how many of them pass the deal on, and how many
+    seconds after the other tables it begins."""
 
     deals: int
     seconds: float = 0.0
+    late: float = 0.0
     moving: int = 6
     mischief: float = 1 / 3
 
 
 async def play(seats: tuple[Seat, Seat], session: int, pace: Pace) -> None:
     """A game: the two phones hand in deals in turn."""
-    start = time.monotonic()
+    start = time.monotonic() + pace.late
 
     async def side(seat: Seat) -> None:
         for number in range(1 + seat.side, pace.deals + 1, 2):
