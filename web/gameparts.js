@@ -41,7 +41,7 @@ export function toggle(name, words, isOn, act, about = {}) {
   return key(name, words, act, { "aria-pressed": String(isOn), ...about });
 }
 
-// Of a longer name the letters are small.
+// Where a name is longer, the letters of all are small on a phone.
 const LONG_NAME = 8;
 
 // A button for each of these players; `said` is its name for a screen reader.
