@@ -76,7 +76,9 @@ export function textWithTiles(text) {
   const drawnGroup = (part) => {
     const [, word, tiles, sign] = ONE_GROUP.exec(part);
     if (tilesIn(tiles) === null) return part;
-    return make("span", { class: "bound" }, word === undefined ? "" : `${named(word)} `, tilesDrawn(tilesIn(tiles)), sign);
+    const drawn = tilesDrawn(tilesIn(tiles));
+    drawn.append(sign);
+    return make("span", { class: "bound" }, ...(word === undefined ? [] : [`${named(word)} `]), drawn);
   };
   return text.split(TILES_IN_TEXT).map((part, at) => (at % 2 === 1 ? drawnGroup(part) : part)).filter((part) => part !== "");
 }
