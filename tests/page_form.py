@@ -191,6 +191,41 @@ def test_further_steps(browser: Browser) -> None:
     told("the most tiles and the most good ones", True, {"33* 10", "20 20*"} <= {" ".join(it.split()[:2]) for it in browser.run(FURTHER)})
 
 
+# The calls that are shown: the tiles of each meld, and its best discards with the live tiles behind them.
+CALLED = """[...document.querySelectorAll('#answer .calls > li')].map((it) => {
+  const kinds = (part) => [...part.querySelectorAll('.face')].map(one => one.dataset.face).join('');
+  return kinds(it.querySelector('.bound')) + ' ' + [...it.querySelectorAll('.accepted li')].map(one => kinds(one) + ':' + parseInt(one.textContent)).join(' ');
+})"""
+
+
+def throw(browser: Browser, who: str, tile: str) -> None:
+    browser.tap(f"[data-target={who}]")
+    tap_tiles(browser, tile)
+
+
+def test_calls(browser: Browser) -> None:
+    """Of a hand of thirteen tiles the calls that bring it nearer. A run with 2p, and 9s thrown away, makes the first ready for 3m, 6m and 9m, of
+    which it has one 3m and one 6m; a triplet of 7z the second for 2p."""
+    fresh(browser)
+    hidden = "document.getElementById('throwers').hidden"
+    choose(browser, "mode", "shape")
+    told("nobody throws to a hand that isn't whole", True, browser.run(hidden))
+    type_line(browser, "shape 12345678m13p55z9s")
+    told("somebody throws to a hand of thirteen", False, browser.run(hidden))
+    browser.tap("[data-target=left]")
+    told("what to tap", True, "Left: tap the tile that is thrown." in browser.run(ANSWER))
+    tap_tiles(browser, "2p")
+    told("a run of the player before", ["1p2p3p 9s:10"], browser.run(CALLED))
+    told("the hand stays", "shape 12345678m13p55z9s", browser.run(LINE))
+    throw(browser, "across", "2p")
+    told("no run of another", ([], True), (browser.run(CALLED), "No call brings the hand nearer." in browser.run(ANSWER)))
+    type_line(browser, "shape 123456m13p5577z9s")
+    told("another hand has no tile thrown", 0, browser.run("document.querySelectorAll('#answer .thrown').length"))
+    throw(browser, "right", "7z")
+    told("a triplet of any", ["7z7z7z 9s:4"], browser.run(CALLED))
+    tap_tiles(browser, "9p")
+    told("nobody throws to a hand of fourteen", True, browser.run(hidden))
+
 
 def test_explanations(browser: Browser) -> None:
     """The rows of an explanation are those of the command `explain`; tiles are drawn, so their text is left out here, melds have their

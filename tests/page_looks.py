@@ -195,9 +195,10 @@ def test_focus(browser: Browser) -> None:
 
 
 def picture(browser: Browser, tile: str) -> str:
-    """The drawing of a tile, which is a ground in the styles."""
+    """The drawing of a tile: a part of the picture of all faces, which is a ground in the styles."""
     rules = "[...document.styleSheets].flatMap(it => [...it.cssRules]).map(it => it.cssText)"
-    return unquote(browser.run(f"{rules}.find(it => it.includes('data-face=\"{tile}\"'))"))
+    faces = unquote(browser.run(f"{rules}.find(it => it.startsWith('.face') && it.includes('data:image'))"))
+    return faces.split(f'id="{tile}"')[1].split("</g>")[0]
 
 
 def test_without_colour(browser: Browser) -> None:

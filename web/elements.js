@@ -67,11 +67,20 @@ export function handDrawn({ hand, on, melds }) {
   return make("p", { class: "hand-drawn" }, ...groups.map(tilesDrawn));
 }
 
+// A group of tiles within a text, with a meld's word before it and the sign behind it.
+const TILES_IN_TEXT = /((?:\b(?:ankan|chi|pon|kan):)?(?:[0-9]+[mps]|[1-7]+z)+(?![0-9a-z])[,:]?)/;
+const ONE_GROUP = /^(?:(\w+):)?(\w+)([,:]?)$/;
+
 // A text in which each group of tiles, as 789m or chi:123m, is drawn, and a meld has its name.
 export function textWithTiles(text) {
-  const parts = text.split(/((?:[0-9]+[mps]|[1-7]+z)+(?![0-9a-z]))/);
-  const words = (part) => part.replace(/\b(chi|pon|kan|ankan):$/, (_, word) => `${named(word)} `);
-  return parts.map((part, at) => (at % 2 === 1 && tilesIn(part) ? tilesDrawn(tilesIn(part)) : words(part))).filter((part) => part !== "");
+  const drawnGroup = (part) => {
+    const [, word, tiles, sign] = ONE_GROUP.exec(part);
+    if (tilesIn(tiles) === null) return part;
+    const drawn = tilesDrawn(tilesIn(tiles));
+    drawn.append(sign);
+    return make("span", { class: "bound" }, ...(word === undefined ? [] : [`${named(word)} `]), drawn);
+  };
+  return text.split(TILES_IN_TEXT).map((part, at) => (at % 2 === 1 ? drawnGroup(part) : part)).filter((part) => part !== "");
 }
 
 // Says something for a moment, where a person sees it and a screen reader hears it.

@@ -116,16 +116,15 @@ function face(tile) {
   return indexOf(tile) + mark + draw(Number(digit), isRed(tile) ? "red" : undefined);
 }
 
-// The face of a tile as a picture of its own.
-export function faceImage(tile) {
-  return `<svg xmlns="http://www.w3.org/2000/svg" viewBox="0 0 30 40">${face(tile)}</svg>`;
-}
-
-// Gives the page a rule for each tile: its face is the ground of one element, which is less work than a drawing of many.
+// Gives the page one picture with all faces side by side, and a rule for each tile, which says where in it its face is: a tile is one
+// element, and the browser has one picture to make and not one for each kind.
 export function styleFaces() {
+  const tiles = [...KINDS, "0m", "0p", "0s"];
+  const faces = tiles.map((tile, at) => `<g id="${tile}" transform="translate(${30 * at})">${face(tile)}</g>`).join("");
+  const size = `viewBox="0 0 ${30 * tiles.length} 40" preserveAspectRatio="none"`;
+  const image = encodeURIComponent(`<svg xmlns="http://www.w3.org/2000/svg" ${size}>${faces}</svg>`);
   const [styles] = document.styleSheets;
-  for (const tile of [...KINDS, "0m", "0p", "0s"]) {
-    const image = `url("data:image/svg+xml,${encodeURIComponent(faceImage(tile))}")`;
-    styles.insertRule(`[data-face="${tile}"] { background-image: ${image} }`, styles.cssRules.length);
-  }
+  const add = (rule) => styles.insertRule(rule, styles.cssRules.length);
+  add(`.face { background-image: url("data:image/svg+xml,${image}"); background-size: ${100 * tiles.length}% 100% }`);
+  tiles.forEach((tile, at) => add(`[data-face="${tile}"] { background-position-x: ${(100 * at) / (tiles.length - 1)}% }`));
 }

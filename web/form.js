@@ -2,9 +2,10 @@
 
 import { answerTo, lacks } from "./answers.js";
 import { lackOfTiles } from "./asked.js";
+import { showThrowers, throwTile } from "./calls.js";
 import { byId, label, make } from "./elements.js";
 import { moveTile, placeOfKind } from "./motion.js";
-import { nextTarget, taken } from "./moves.js";
+import { nextTarget, taken, THROWERS } from "./moves.js";
 import { named } from "./names.js";
 import { showPicker } from "./picker.js";
 import { MELD_WORDS } from "./record.js";
@@ -33,6 +34,10 @@ export function takeTile(kind) {
   const { record: before, target, isRed } = state;
   const record = taken(before, target, kind, isRed);
   if (record === null) return;
+  if (THROWERS.includes(target)) {
+    throwTile(kind);
+    return showForm();
+  }
   const from = placeOfKind(kind);
   setRecord(record, nextTarget(target));
   showForm();
@@ -98,6 +103,7 @@ function showChoices() {
   byId("red").setAttribute("aria-pressed", String(state.isRed));
   byId("back").setAttribute("aria-disabled", String(state.past.length === 0));
   for (const part of document.querySelectorAll("[data-jobs]")) part.hidden = !part.dataset.jobs.split(" ").includes(record.job);
+  showThrowers();
 }
 
 function showFault(field) {
@@ -115,6 +121,7 @@ function targetHelp() {
   if (state.target === "chi") return phrase("chi help", { word });
   if (MELD_WORDS.includes(state.target)) return phrase("meld help", { word });
   if (["dora", "ura"].includes(state.target)) return phrase("indicator help", { word });
+  if (THROWERS.includes(state.target)) return phrase("thrown help", { word });
   return state.target === "hand" ? "" : phrase("tiles help", { word });
 }
 
@@ -122,12 +129,13 @@ function showAnswer() {
   if (state.aside !== null) return tellInGame();
   const { line, rules, record } = state;
   const lacking = lacks();
-  const help = targetHelp() === "" ? [] : [make("p", { class: "lacking" }, targetHelp())];
+  const said = targetHelp();
+  const help = said === "" ? [] : [make("p", { class: "lacking" }, said)];
   showFault("");
   byId("why").disabled = true;
   if (lacking.length > 0) {
     const wanted = phrase(record.hand.length === 0 ? "tap the hand" : "lacking", { what: listed(lacking) });
-    byId("answer").replaceChildren(...help, make("p", { class: "lacking" }, wanted));
+    byId("answer").replaceChildren(...(said === "" ? [make("p", { class: "lacking" }, wanted)] : help));
     return;
   }
   const about = answerTo(line, rules);

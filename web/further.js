@@ -20,7 +20,7 @@ function tileCounts(tiles) {
 }
 
 // A hand as the library's calls for many hands have it; after a discard, which is then seen.
-function shapeRow({ hand, melds, seen }, discard) {
+export function shapeRow({ hand, melds, seen }, discard) {
   const row = { counts: tileCounts(hand), melds: melds.map((meld) => MELD_BYTES[meld.word] + Math.min(...placesOfKinds(meld.tiles))), seen: tileCounts(seen) };
   if (discard !== undefined) {
     const [kind] = placesOfKinds([discard]);

@@ -2,12 +2,12 @@
 // again, and shown where it differs.
 
 import { draftOf } from "./draft.js";
-import { make, textWithTiles } from "./elements.js";
+import { handDrawn, make, tilesDrawn } from "./elements.js";
 import { changeLines, evening, keepEvening, wholeGame } from "./evening.js";
 import {
   actions, changeClass, dealWords, faultWords, field, FOUR, goTo, head, key, nameOf, quiet, reasonsOf, sizeText, stateWords, tapped,
 } from "./gameparts.js";
-import { knownRecord } from "./hands.js";
+import { knownRecord, recordOfHand } from "./hands.js";
 import { betsOf, withNote } from "./notation.js";
 import { named } from "./names.js";
 import { points, signed } from "./numbers.js";
@@ -66,12 +66,12 @@ function wasRow(step, before, differs) {
 function dealItem(game, step, at, before, differs) {
   const title = colon(dealWords(step.before.state), outcomeText(step, game));
   const fault = step.fault === undefined ? [] : [make("p", { class: "fault" }, faultWords(step))];
+  const detail = (words) => make("span", { class: "quiet" }, words);
   const details = [...betText(step.outcome, game), ...(step.note === "" ? [] : [step.note])];
   return make(
     "li",
     { class: differs ? "deal is-changed" : "deal" },
-    key(`deal-${at}`, [make("span", { class: "deal-title" }, title)], goTo("deal", String(at)), { class: "deal-button" }),
-    ...details.map(quiet),
+    key(`deal-${at}`, [make("span", { class: "deal-title" }, title), ...details.map(detail)], goTo("deal", String(at)), { class: "deal-button" }),
     ...changesRow(step),
     ...fault,
     ...wasRow(step, before, differs),
@@ -101,10 +101,15 @@ export function dealsScreen() {
 
 // ---- One deal
 
-// The hands that were won, tile by tile.
+// The hands that were won, tile by tile, with the indicators.
 function handsDrawn({ outcome }, game) {
   const wins = (outcome?.wins ?? []).filter(({ value }) => "tiles" in value);
-  return wins.map(({ winner, value }) => make("p", { class: "raw" }, `${nameOf(winner, game)} `, ...textWithTiles(value.tiles)));
+  return wins.map(({ winner, value }) => {
+    const record = recordOfHand(value.tiles);
+    const indicators = ["dora", "ura"].filter((word) => record[word].length > 0);
+    const shown = indicators.map((word) => make("span", { class: "bound" }, `${named(word)} `, tilesDrawn(record[word])));
+    return make("div", {}, make("p", {}, nameOf(winner, game)), handDrawn(record), ...shown);
+  });
 }
 
 function putRight(step, at) {

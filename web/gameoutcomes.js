@@ -72,7 +72,7 @@ export function penaltyScreen() {
   const { draft } = evening;
   const set = (number) => tapped(() => (draft.points = number));
   const often = PENALTIES.map((number) => toggle(`points-${number}`, points(Number(number)), draft.points === number, set(number)));
-  const field = numberField("points", phrase("points off"), draft.points, (text) => (draft.points = text));
+  const field = numberField("points", phrase("points other"), draft.points, (text) => (draft.points = text));
   return [
     head(phrase("penalty"), tapped(leaveOutcome)),
     onePlayer(phrase("who")),

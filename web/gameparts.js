@@ -41,9 +41,13 @@ export function toggle(name, words, isOn, act, about = {}) {
   return key(name, words, act, { "aria-pressed": String(isOn), ...about });
 }
 
+// Where a name is longer, the letters of all are small on a phone.
+const LONG_NAME = 8;
+
 // A button for each of these players; `said` is its name for a screen reader.
 export function playerButtons(name, players, isOn, act, said) {
-  return players.map((who) => toggle(`${name}-${who}`, nameOf(who), isOn(who), tapped(() => act(who)), { "aria-label": said(nameOf(who)) }));
+  const about = (player) => ({ "aria-label": said(player), ...(player.length > LONG_NAME ? { class: "long" } : {}) });
+  return players.map((who) => toggle(`${name}-${who}`, nameOf(who), isOn(who), tapped(() => act(who)), about(nameOf(who))));
 }
 
 // Buttons that lead on.

@@ -117,7 +117,7 @@ export function setupScreen() {
 export function rulesScreen() {
   const { table, rules } = standingGame();
   const row = (rule) => [make("dt", {}, phrase(`rule ${rule.word}`)), make("dd", {}, valueText(rule, ruleValue(rules, rule)))];
-  const list = make("dl", { class: "why" }, ...TABLE_RULES.flatMap(row));
+  const list = make("dl", { class: "why in-halves" }, ...TABLE_RULES.flatMap(row));
   return [head(phrase("table rules"), goTo("more")), make("p", {}, phrase(`table ${table}`)), valuedBy(rules), list];
 }
 

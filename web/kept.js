@@ -1,14 +1,14 @@
 // The list of the last hands, with their answers and names.
 
 import { answerTo, rulesWords } from "./answers.js";
-import { byId, handDrawn, make, say, textWithTiles } from "./elements.js";
+import { byId, handDrawn, label, make, say, textWithTiles } from "./elements.js";
 import { clearAll } from "./form.js";
 import { recordOf } from "./record.js";
 import { copyText, handsOfText, printOnly, saveFile, textOfHands } from "./share.js";
 import { openSheet } from "./sheet.js";
-import { shownAnswer } from "./shown.js";
+import { briefWords, shownAnswer } from "./shown.js";
 import { state } from "./state.js";
-import { addHands, MOST_HANDS, nameHand, putHandBack, readHands, removeHand } from "./store.js";
+import { addHands, MOST_HANDS, putHandBack, readHands, removeHand } from "./store.js";
 import { phrase } from "./words.js";
 
 let openKept = () => {};
@@ -28,36 +28,40 @@ function takeAway(hand) {
   byId("hands-undo").focus();
 }
 
-// What is said of a hand in the list: its answer, without the reasons.
+// What paper says of a hand: its answer, without the reasons.
 function shortAnswer({ line, rules }) {
   const about = answerTo(line, rules);
   const profile = rules === 1 ? [] : [make("p", { class: "quiet" }, rulesWords(rules))];
   return [...profile, make("div", { class: "answer short" }, ...(about.values === null ? [] : shownAnswer(about.values, about)))];
 }
 
+// A hand in the list: its name, what it was answered in a few words, and its tiles. A tap on it opens it.
 function handItem(hand, at) {
-  const title = handTitle(hand, at);
-  const button = (text, label, click) => make("button", { type: "button", "aria-label": `${label}: ${title}`, click }, text);
-  const about = { "aria-label": phrase("table of", { title }), placeholder: phrase("table and round"), value: hand.name };
-  const name = make("input", { type: "text", maxlength: "60", ...about });
-  const record = recordOf(hand.line);
+  const { line, rules, name } = hand;
+  const named = (words) => `${words}: ${handTitle(hand, at)}`;
+  const [answer, ...more] = briefWords(state.desk.values(line, rules));
+  const words = [make("strong", {}, answer), ...more, ...(rules === state.rules ? [] : [rulesWords(rules)])];
+  const record = recordOf(line);
   const drawn = record === null || record.hand.length === 0 ? [] : [handDrawn(record)];
-  name.addEventListener("input", () => nameHand(hand.id, name.value));
+  const open = make("button", { type: "button", class: "open-hand", click: () => openKept(hand) });
+  open.append(make("span", { class: "hand-name" }, name), make("span", {}, ...words.flatMap((it) => [it, " "])));
   return make(
     "li",
     { "data-id": String(hand.id) },
-    name,
+    open,
+    make("button", { type: "button", "aria-label": named(phrase("why")), click: () => openSheet(line, rules, hand.id) }, phrase("why")),
+    label(make("button", { type: "button", class: "take-away", click: () => takeAway(hand) }, "×"), named(phrase("take away"))),
     ...drawn,
-    make("p", { class: drawn.length > 0 ? "raw heard" : "raw" }, hand.line),
-    ...shortAnswer(hand),
-    make(
-      "div",
-      { class: "buttons" },
-      button(phrase("open"), phrase("open"), () => openKept(hand)),
-      button(phrase("why"), phrase("why"), () => openSheet(hand.line, hand.rules, hand.id)),
-      button(phrase("take away"), phrase("take away"), () => takeAway(hand)),
-    ),
+    make("p", { class: drawn.length > 0 ? "raw heard" : "raw" }, line),
   );
+}
+
+// The names of the list, which may have changed in the sheet of a hand.
+function showHandNames() {
+  for (const { id, name } of readHands()) {
+    const item = byId("hand-list").querySelector(`[data-id="${id}"] .hand-name`);
+    if (item) item.textContent = name;
+  }
 }
 
 export function showHands() {
@@ -112,6 +116,7 @@ export function listenToHands(openHand) {
     say(`${phrase("saved")} ${words}`);
   });
   on("hands-file", "change", openHands);
+  on("sheet", "close", showHandNames);
   on("hands-print", "click", () => printOnly(...listParts()));
   on("hands-undo", "click", () => {
     putHandBack(gone.pop());

@@ -1,6 +1,7 @@
 // The proved library: its module, and its calls. Sizes and places are 64-bit numbers there, though its memory has 32-bit places.
 
 import { ledgerOf } from "./ledger.js";
+import { KINDS, range } from "./tiles.js";
 
 const PAGE = 65536;
 const MOST_LINE = 4098;
@@ -8,6 +9,8 @@ const MOST_LINE = 4098;
 const GIVEN_PAGES = 4;
 // So many bytes of what it tells are of one column.
 const COLUMN_ROOM = 4096;
+const KIND_COUNT = 34;
+const CALL_COUNT = 4;
 // A text of games is no longer.
 const MOST_GAME = GIVEN_PAGES * PAGE;
 
@@ -98,21 +101,38 @@ export class Desk {
     return this.#ask("explain", line, rules).split("\n").filter((it) => it !== "");
   }
 
-  // Of each hand of thirteen tiles (its counts, melds as bytes and the tiles that are seen) good and second; 0 of one that is ready.
-  outlooks(hands) {
+  // Puts rows of hands (counts, melds as bytes, tiles that are seen) and of what `more` has into the memory, a page for each array, and
+  // has a call fill columns; gives the places of the columns.
+  #fill(call, hands, more, columns) {
     const memory = new Uint8Array(this.#exports.memory.buffer);
-    const [counts, melds, seen] = [0, 1, 2].map((page) => this.#line + page * PAGE);
-    const [shanten, second, good] = [0, 1, 2].map((place) => this.#room + place * COLUMN_ROOM);
-    memory.fill(0, melds, melds + 4 * hands.length);
-    hands.forEach((hand, row) => {
-      memory.set(hand.counts, counts + 34 * row);
-      memory.set(hand.melds, melds + 4 * row);
-      memory.set(hand.seen, seen + 34 * row);
+    const given = ["counts", "melds", "seen", ...more].map((name, page) => {
+      const place = this.#line + page * PAGE;
+      const width = name === "melds" ? 4 : hands[0][name].length;
+      memory.fill(0, place, place + width * hands.length);
+      hands.forEach((hand, row) => memory.set(hand[name], place + width * row));
+      return place;
     });
-    const arrays = [counts, melds, seen, shanten, second, good].flatMap((place) => [BigInt(place), BigInt(hands.length)]);
-    this.#exports.riichi_deeper(...arrays);
-    const view = new DataView(memory.buffer);
-    return hands.map((_, row) => ({ good: memory[good + row], second: view.getUint16(second + 2 * row, true) }));
+    const told = range(0, columns - 1).map((column) => this.#room + column * COLUMN_ROOM);
+    this.#exports[`riichi_${call}`](...[...given, ...told].flatMap((place) => [BigInt(place), BigInt(hands.length)]));
+    return told;
+  }
+
+  // Of each hand of thirteen tiles good and second; 0 of one that is ready.
+  outlooks(hands) {
+    const [, second, good] = this.#fill("deeper", hands, [], 3);
+    const view = new DataView(this.#exports.memory.buffer);
+    return hands.map((_, row) => ({ good: view.getUint8(good + row), second: view.getUint16(second + 2 * row, true) }));
+  }
+
+  // Of a hand of thirteen tiles and a thrown tile (its kind, and who throws it) four calls: for a run of which the tile is the highest, the
+  // middle or the lowest, and for a triplet. Each has its best discards: none where it brings the hand no nearer.
+  calls(hand, thrown) {
+    const [, kinds, live] = this.#fill("calls", [{ ...hand, thrown }], ["thrown"], 3);
+    const view = new DataView(this.#exports.memory.buffer);
+    const isBest = (call, kind) => (view.getBigUint64(kinds + 8 * call, true) >> BigInt(kind)) & 1n;
+    const liveOf = (call, kind) => view.getUint8(live + KIND_COUNT * call + kind);
+    const discardsOf = (call) => range(0, KIND_COUNT - 1).filter((kind) => isBest(call, kind)).map((kind) => ({ kind: KINDS[kind], live: liveOf(call, kind) }));
+    return range(0, CALL_COUNT - 1).map((call) => ({ discards: discardsOf(call) }));
   }
 
   // What the command `game` answers to a text of games; null where it is too long for a phone.

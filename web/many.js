@@ -27,8 +27,10 @@ function answerItem({ number, line, told, rules }, _, { length }) {
     "li",
     told.startsWith("refused") ? { class: "is-refused" } : {},
     make("span", { class: "number" }, String(number)),
-    make("div", {}, make("div", { class: "raw" }, line), ...drawn, make("div", { class: "told", lang: "en" }, told)),
+    make("div", { class: "raw" }, line),
     make("button", { type: "button", "aria-label": `${phrase("open")}: ${phrase("line number", { number })}`, click: open }, phrase("open")),
+    ...drawn,
+    make("div", { class: "told", lang: "en" }, told),
   );
 }
 

@@ -4,6 +4,9 @@ import { isMeld, mostIndicators, sizesOf, spaceInHand } from "./asked.js";
 import { MELD_WORDS, tilesOf } from "./record.js";
 import { countOf, isFive, kindOf, parted, sorted, tileOf } from "./tiles.js";
 
+// Who may throw the tile that is tapped: the player before, across, and after.
+export const THROWERS = ["left", "across", "right"];
+
 // The tiles of a meld that a tapped kind stands for: of a run it is the lowest. One five of it can be a red one.
 export function meldTiles(word, kind, isRed) {
   const [digit, suit] = kind;
@@ -31,6 +34,7 @@ function withMeld(record, word, tiles) {
 
 function withTile(record, target, kind, isRed) {
   if (MELD_WORDS.includes(target)) return withMeld(record, target, meldTiles(target, kind, isRed));
+  if (THROWERS.includes(target)) return withTile(record, "seen", kind, isRed);
   if (["dora", "ura"].includes(target) && record[target].length >= mostIndicators()) return null;
   const place = target === "hand" ? placeOf(record) : target;
   return place && { ...record, [place]: sorted([...record[place], tileOf(kind, isRed)]) };

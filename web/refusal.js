@@ -85,7 +85,8 @@ export function shownRefusal(answer, about) {
   box.append(...about.reasons.filter((row) => TRY.test(row)).map((row) => tryButton(row, about)));
   // What the library says, in English and in the words of a line, stands where the page has no words of its own.
   if (mark.length === 0) box.append(...saidOf(answer, about).map((row) => make("p", { class: "reason", lang: "en" }, row)));
-  box.append(make("p", {}, phrase("look at", { what: within(phrase(FIELDS[answer.key] ?? "line")) })));
+  const field = FIELDS[answer.key];
+  if (field !== undefined) box.append(make("p", {}, phrase("look at", { what: within(phrase(field)) })));
   if (answer.place !== undefined) box.append(placeShown(answer, about.line));
   return [box];
 }

@@ -1,5 +1,6 @@
 // The answer to one line, as it is shown.
 
+import { callsParts } from "./calls.js";
 import { make, tileImage } from "./elements.js";
 import { furtherParts } from "./further.js";
 import { named, shantenWords, yakuName } from "./names.js";
@@ -48,10 +49,15 @@ function shownWin(answer, about) {
   ];
 }
 
+function waitsWords({ length }) {
+  return length === 0 ? phrase("no waits") : phrase(length === 1 ? "waits for one" : "waits for", { number: length });
+}
+
 function shownWaits({ kinds }) {
-  if (kinds.length === 0) return [make("p", { class: "headline" }, phrase("no waits"))];
+  const head = make("p", { class: "headline" }, waitsWords(kinds));
+  if (kinds.length === 0) return [head];
   return [
-    make("p", { class: "headline" }, phrase(kinds.length === 1 ? "waits for one" : "waits for", { number: kinds.length })),
+    head,
     make("ul", { class: "accepted", "aria-label": phrase("waits") }, ...kinds.map((kind) => make("li", {}, tileImage(kind)))),
   ];
 }
@@ -75,6 +81,16 @@ function shownShape({ shanten, discards, accepts, live }) {
   return [head, make("p", {}, phrase("discard")), list];
 }
 
+// An answer in a few words, the first of which say most.
+export function briefWords(values) {
+  if (values === null) return [""];
+  const { answer, kinds, shanten, live } = values;
+  if (answer === "won") return [phrase("headline points", { points: points(values.gain) }), sizeWords(values)];
+  if (answer === "waits") return [waitsWords(kinds)];
+  if (answer === "shape") return [shantenWords(shanten), ...(live === undefined ? [] : [phrase("live", { number: live })])];
+  return [["no yaku", "no win", "refused"].includes(answer) ? phrase(answer) : answer];
+}
+
 const SHOWN = {
   won: shownWin,
   waits: shownWaits,
@@ -94,5 +110,5 @@ export function shownAnswer(answer, about) {
 export function shownWhole(answer, about, first = []) {
   const hasRows = about.reasons.length > 0 && answer.answer !== "refused";
   const reasons = hasRows ? [make("dl", { class: "why", "aria-label": phrase("reasons") }, ...rowsOfReasons(about, first))] : [];
-  return [...shownAnswer(answer, about), ...furtherParts(answer, about), ...reasons, make("p", { class: "raw", lang: "en" }, about.text)];
+  return [...shownAnswer(answer, about), ...callsParts(answer, about), ...furtherParts(answer, about), ...reasons, make("p", { class: "raw", lang: "en" }, about.text)];
 }

@@ -6,6 +6,7 @@ export const state = {
   record: emptyRecord("win"),
   line: lineOf(emptyRecord("win")),
   target: "hand", // where a tapped tile goes
+  thrown: null, // the tile that another player throws: for which line, who, and its kind
   isFurther: false, // whether what stands beyond the next step is shown
   isRed: false, // whether the next five is a red one
   past: [], // what stood before each change

@@ -25,13 +25,11 @@ export function tileOf(kind, isRed) {
   return isRed && isFive(kind) ? `0${kind[1]}` : kind;
 }
 
-// The place of a tile in the order of a hand; a red five stands behind the other fives.
-function orderOf(tile) {
-  return KINDS.indexOf(kindOf(tile)) + (isRed(tile) ? 0.5 : 0);
-}
+// The place of each tile in the order of a hand; a red five stands behind the other fives.
+const ORDER_OF_TILES = new Map(KINDS.flatMap((kind, at) => [[kind, at], ...(isFive(kind) ? [[tileOf(kind, true), at + 0.5]] : [])]));
 
 export function sorted(tiles) {
-  return [...tiles].sort((one, other) => orderOf(one) - orderOf(other));
+  return [...tiles].sort((one, other) => ORDER_OF_TILES.get(one) - ORDER_OF_TILES.get(other));
 }
 
 // Tiles like those that are wanted, taken from others, and what is left of these; a red five stands for a five that isn't there,

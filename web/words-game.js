@@ -133,6 +133,7 @@ export const GAME_WORDS = {
   "limits": ["Limits {number}", "倍数{number}", "Limits {number}", "Limites {number}", "Limity {number}"],
   "ready title": ["Ready", "聴牌", "Tenpai", "Tenpai", "Tenpai"],
   "nagashi title": ["Nagashi mangan", "流し満貫", "Nagashi Mangan", "Nagashi mangan", "Nagashi mangan"],
+  "points other": ["Another number", "その他の点数", "Andere Zahl", "Autre nombre", "Inna liczba"],
   "points off": ["Points off the final points", "最終得点から引く点", "Abzug vom Endergebnis", "Points ôtés du total", "Punkty odjęte od wyniku"],
   "four riichi": ["Four riichi", "四家立直", "Vier Riichi", "Quatre riichi", "Cztery riichi"],
 

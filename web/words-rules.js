@@ -43,7 +43,7 @@ export const RULE_WORDS = {
     "Un tour de plus, si personne n’a",
     "Jeszcze runda, jeśli nikt nie ma",
   ],
-  "extra off": ["no round more", "なし", "keine Runde mehr", "pas de tour de plus", "bez dodatkowej rundy"],
+  "extra off": ["no round more", "なし", "keine Runde mehr", "pas de tour de plus", "bez dogrywki"],
   "rule bust": ["Below 0 points it is over", "飛び", "Unter 0 Punkten ist Schluss", "Sous 0 point c’est fini", "Poniżej 0 punktów koniec"],
   "rule stop": [
     "The last dealer may stop as first",
