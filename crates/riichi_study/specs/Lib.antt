@@ -3,3 +3,5 @@ pub mod Values
 pub mod CallParts
 pub mod Records
 pub mod Lines
+pub mod Prospects
+pub mod Texts

@@ -20,5 +20,5 @@ only_tile (Ok counts) = only_kind counts
 only_tile (Err fault) = None
 
 -- the kind of the only tile that a text spells
-unfoldable pub tile_of : List ℕ → Option ℕ
-tile_of value = only_tile (reading_of value)
+unfoldable pub tile_named : List ℕ → Option ℕ
+tile_named value = only_tile (reading_of value)

@@ -40,12 +40,12 @@ own_values key words = filter_map (own_value key) words
 abbrev pub is_own : StudyName → List ℕ → Bool
 is_own job word = list_any (λ key. is_some (own_value key word)) (own_keys job)
 
-abbrev pub other_words : StudyName → List (List ℕ) → List (List ℕ)
-other_words job words = filter (λ word. not (is_own job word)) words
+abbrev pub shape_words : StudyName → List (List ℕ) → List (List ℕ)
+shape_words job words = filter (λ word. not (is_own job word)) words
 
 -- a space before each word
-abbrev pub spaced : List (List ℕ) → List ℕ
-spaced words = flat_map (λ word. 32 ∷ word) words
+abbrev pub space_before_each : List (List ℕ) → List ℕ
+space_before_each words = flat_map (λ word. 32 ∷ word) words
 
 -- the value of a key that stands once, none where it doesn't stand there; twice is a fault
 abbrev pub only_of : List (List ℕ) → Result (Option (List ℕ)) LineFault

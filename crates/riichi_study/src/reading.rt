@@ -4,7 +4,7 @@ ghost use Rattle.riichi_hand.specs.Lines.{outcome_of};
 ghost use Rattle.riichi_hand.specs.Rules.{first_profile};
 ghost use Rattle.riichi_hand.specs.Words.{words_of};
 ghost use Rattle.riichi_study.specs.Lines as spec;
-ghost use Rattle.riichi_study.specs.Words.{other_words};
+ghost use Rattle.riichi_study.specs.Words.{shape_words};
 
 use crate::call_record::CallRecord;
 use crate::key::StudyKey;
@@ -81,7 +81,7 @@ fn read_hand(job: StudyName, words: &[u8]) -> Result<ShapeRecord, LineFault>
 /// The shape line of the words that are not of the study line's own.
 fn shape_line(job: StudyName, words: &[u8]) -> LineRoom
     requires { length words.now ≤ MOST_LINE }
-    ensures { result.items ≡ spec.shape_line (other_words job (words_of words.now)) }
+    ensures { result.items ≡ spec.shape_line (shape_words job (words_of words.now)) }
 {
     let mut line = LineRoom::new();
     line.try_extend_from_slice(b"shape").unwrap();
@@ -91,7 +91,7 @@ fn shape_line(job: StudyName, words: &[u8]) -> LineRoom
 
 /// The shape of a shape line, or its first fault.
 fn read_shape_line(line: &[u8]) -> Result<ShapeRecord, LineFault>
-    ensures { result ≡ spec.shape_in (outcome_of first_profile line.now) }
+    ensures { result ≡ spec.outcome_shape (outcome_of first_profile line.now) }
 {
     match read_line(Rules::One, line)? {
         Some(job) => shape_of(&job),
@@ -101,7 +101,7 @@ fn read_shape_line(line: &[u8]) -> Result<ShapeRecord, LineFault>
 
 /// The hand of a job that is a shape.
 fn shape_of(job: &Job) -> Result<ShapeRecord, LineFault>
-    ensures { result ≡ spec.shape_in (Ok (Some job.now)) }
+    ensures { result ≡ spec.outcome_shape (Ok (Some job.now)) }
 {
     match job {
         Job::Shape(hand) => Ok(*hand),

@@ -6,9 +6,9 @@ use riichi_deeper::Thrower;
 use riichi_tiles::{Kind, read_counts};
 
 /// The kind of the only tile that a text spells.
-#[tactic(auto, unfolding(crate::specs::Values::tile_of))]
+#[tactic(auto, unfolding(crate::specs::Values::tile_named))]
 pub(crate) fn read_tile(value: &[u8]) -> Option<Kind>
-    ensures { result ≡ spec.tile_of value.now }
+    ensures { result ≡ spec.tile_named value.now }
 {
     match read_counts(value) {
         Ok(counts) if counts.total() == 1 => counts.lowest(),

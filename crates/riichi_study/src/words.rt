@@ -61,7 +61,7 @@ pub(crate) fn only_value(key: StudyKey, text: &[u8]) -> Result<Option<&[u8]>, Li
 /// Writes the words of a text that are not of a study line's own, a space before each.
 pub(crate) fn push_others(job: StudyName, text: &[u8], room: &mut LineRoom)
     requires { length room.old.items + 2 * length text.now ≤ SHAPE_ROOM }
-    ensures { room.new.items ≡ room.old.items ++ spec.spaced (spec.other_words job (words_of text.now)) }
+    ensures { room.new.items ≡ room.old.items ++ spec.space_before_each (spec.shape_words job (words_of text.now)) }
 {
     let mut rest = text;
     while let Some((word, after)) = next_word(rest) {
