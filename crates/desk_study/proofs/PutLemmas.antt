@@ -29,18 +29,15 @@ first_and_below before front line first put after below is told later =
 
 -- ---- lines that may be missing
 
+line_put : (line : Option (List ℕ)) (rest : List ℕ) (others : List (List ℕ)) → rest ≡ text_of others → with_line_feed line ++ rest ≡ text_of (cons_option line others)
+line_put None rest others e = e
+line_put (Some line) rest others e = ap (λ (t : List ℕ). (line ++ 10 ∷ []) ++ t) e
+
 pub kept_lines : (parts : ShapeParts) (discards : List Discard) → flat_map kept_line (map (kept_prospect parts) discards) ≡ text_of (filter_map prospect_line (map (prospect_of parts) discards))
 kept_lines parts [] = refl
-kept_lines parts (discard ∷ discards) = by_line (prospect_line (prospect_of parts discard))
-  where
-    by_line : (line : Option (List ℕ)) → with_line_feed line ++ flat_map kept_line (map (kept_prospect parts) discards) ≡ text_of (cons_option line (filter_map prospect_line (map (prospect_of parts) discards)))
-    by_line None = kept_lines parts discards
-    by_line (Some line) = ap (λ (t : List ℕ). (line ++ 10 ∷ []) ++ t) (kept_lines parts discards)
+kept_lines parts (discard ∷ discards) =
+    line_put (prospect_line (prospect_of parts discard)) (flat_map kept_line (map (kept_prospect parts) discards)) (filter_map prospect_line (map (prospect_of parts) discards)) (kept_lines parts discards)
 
 pub found_lines : {X : Type 0} (f : X → Option (List ℕ)) (xs : List X) → flat_map (λ x. with_line_feed (f x)) xs ≡ text_of (filter_map f xs)
 found_lines f [] = refl
-found_lines f (x ∷ xs) = by_line (f x)
-  where
-    by_line : (line : Option (List ℕ)) → with_line_feed line ++ flat_map (λ x. with_line_feed (f x)) xs ≡ text_of (cons_option line (filter_map f xs))
-    by_line None = found_lines f xs
-    by_line (Some line) = ap (λ (t : List ℕ). (line ++ 10 ∷ []) ++ t) (found_lines f xs)
+found_lines f (x ∷ xs) = line_put (f x) (flat_map (λ y. with_line_feed (f y)) xs) (filter_map f xs) (found_lines f xs)

@@ -6,7 +6,6 @@ ghost use Rattle.riichi_study.specs.Texts as lines;
 ghost use Rattle.riichi_study.specs.declared.study.Study.TheVariants as asks;
 ghost use Rattle.desk_lines.specs.Outbox.{HasRoomForLine, HasRoomForText};
 ghost use Rattle.desk_lines.specs.Telling.{text_of, with_line_feed};
-ghost use Rattle.desk_lines.specs.declared.outbox.TheConstants.{MOST_TEXT_LINE};
 ghost use Rattle.desk_study.specs.Answers as spec;
 
 use crate::puts::begin;

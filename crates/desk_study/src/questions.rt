@@ -29,6 +29,7 @@ impl Questions {
 
     /// Takes the line of this number, and puts its answer. The first line may set a rule profile, as in a text of record lines: hands
     /// are studied alike under each, and it is not answered.
+    #[tactic(auto, unfolding(crate::specs::Answers::question_answer, crate::specs::Answers::question_kind))]
     pub fn take<S: RowSource>(
         &self,
         number: u64,
@@ -41,7 +42,7 @@ impl Questions {
         ensures put { outbox.new.bytes.items ≡ outbox.old.bytes.items
             ++ with_line_feed (spec.question_answer self.now.is_numbered number line.now) }
     {
-        if number == 1 && profile_of(line).is_some() {
+        if names_rules(number, line) {
             return LineKind::NoRecord;
         }
         let front = number_if(self.is_numbered, number);
@@ -57,6 +58,13 @@ impl Questions {
             }
         }
     }
+}
+
+/// Whether the line of this number sets a rule profile: the first of all may.
+fn names_rules(number: u64, line: &[u8]) -> bool
+    ensures { result ≡ spec.names_rules number line.now }
+{
+    number == 1 && profile_of(line).is_some()
 }
 
 /// The number of a line, where answers are numbered.

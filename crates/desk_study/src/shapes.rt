@@ -1,5 +1,5 @@
 //! Answers to questions of a shape.
-ghost use Rattle.std.specs.Prelude.{◌≡◌, ◌+◌, ◌*◌, ◌≤◌, ◌++◌, length};
+ghost use Rattle.std.specs.Prelude.{◌≡◌, ◌+◌, ◌*◌, ◌≤◌, ◌++◌, length, true};
 ghost use Rattle.std.specs.List.{flat_map};
 ghost use Rattle.riichi_hand.specs.Hand.{is_thirteen, size};
 ghost use Rattle.riichi_shape.specs.Accepted.{accepted_of};
@@ -10,7 +10,7 @@ ghost use Rattle.riichi_deeper.specs.Deeper.{deeper_of};
 ghost use Rattle.riichi_study.specs.Texts as lines;
 ghost use Rattle.riichi_study.specs.declared.study.Study.TheVariants as asks;
 ghost use Rattle.desk_lines.specs.Outbox.{HasRoomForLine, HasRoomForText};
-ghost use Rattle.desk_lines.specs.Telling.{text_of};
+ghost use Rattle.desk_lines.specs.Telling.{text_of, with_line_feed};
 ghost use Rattle.desk_study.specs.Answers as spec;
 
 use crate::puts::begin;
@@ -94,27 +94,29 @@ fn put_prospects(list: &[Option<Prospect>], outbox: &mut Outbox)
     }
 }
 
-/// Puts the line of a discard, where the hand isn't ready after it.
+/// Puts the line of a discard, where there is one.
 fn put_prospect(prospect: &Option<Prospect>, outbox: &mut Outbox)
     requires { spec.HasRoomFor MOST_BELOW outbox.old }
     ensures put { outbox.new.bytes.items
         ≡ outbox.old.bytes.items ++ spec.kept_line prospect.now }
     ensures room { length outbox.new.bytes.items ≤ length outbox.old.bytes.items + MOST_BELOW }
 {
-    if let Some(
-        Prospect {
-            discard,
-            outlook: Some(outlook),
-        },
-    ) = prospect
-    {
+    if let Some(prospect) = prospect {
+        put_outlook(prospect, outbox);
+    }
+}
+
+/// Puts the line of a discard, where the hand isn't ready after it.
+fn put_outlook(prospect: &Prospect, outbox: &mut Outbox)
+    requires { spec.HasRoomFor MOST_BELOW outbox.old }
+    ensures put { outbox.new.bytes.items
+        ≡ outbox.old.bytes.items ++ with_line_feed (lines.prospect_line prospect.now) }
+    ensures room { length outbox.new.bytes.items ≤ length outbox.old.bytes.items + MOST_BELOW }
+{
+    if let Some(outlook) = prospect.outlook {
+        let live = prospect.discard.accepted.live();
         outbox.text.clear();
-        push_discard_outlook(
-            &mut outbox.text,
-            discard.kind,
-            discard.accepted.live(),
-            outlook,
-        );
+        push_discard_outlook(&mut outbox.text, prospect.discard.kind, live, &outlook);
         outbox.put_text();
     }
 }

@@ -34,7 +34,8 @@ pub const MOST_CALL: usize = "  ".len() + MOST_MELD + " ".len() + MOST_SHAPE;
 /// Writes what stands beyond the next step, behind the live copies of what is accepted.
 fn push_figures(text: &mut AnswerText, live: u32, outlook: &Outlook)
     requires { array_string_len text.old + MOST_FIGURES ≤ ANSWER_ROOM }
-    ensures { text.new.bytes ≡ text.old.bytes ++ spec.figures_text live outlook.now }
+    ensures bytes { text.new.bytes ≡ text.old.bytes ++ spec.figures_text live outlook.now }
+    ensures len { array_string_len text.new ≤ array_string_len text.old + MOST_FIGURES }
 {
     text.push_str("live ");
     push_number(text, live);
@@ -47,7 +48,8 @@ fn push_figures(text: &mut AnswerText, live: u32, outlook: &Outlook)
 /// Writes the line below a hand of thirteen tiles that isn't ready.
 pub fn push_hand_outlook(text: &mut AnswerText, live: u32, outlook: &Outlook)
     requires { array_string_len text.old + MOST_OUTLOOK ≤ ANSWER_ROOM }
-    ensures { text.new.bytes ≡ text.old.bytes ++ spec.hand_line live outlook.now }
+    ensures bytes { text.new.bytes ≡ text.old.bytes ++ spec.hand_line live outlook.now }
+    ensures len { array_string_len text.new ≤ array_string_len text.old + MOST_OUTLOOK }
 {
     text.push_str("  ");
     push_figures(text, live, outlook);
@@ -56,7 +58,8 @@ pub fn push_hand_outlook(text: &mut AnswerText, live: u32, outlook: &Outlook)
 /// Writes the line of a discard after which the hand isn't ready.
 pub fn push_discard_outlook(text: &mut AnswerText, kind: Kind, live: u32, outlook: &Outlook)
     requires { array_string_len text.old + MOST_OUTLOOK ≤ ANSWER_ROOM }
-    ensures { text.new.bytes ≡ text.old.bytes ++ spec.discard_line kind live outlook.now }
+    ensures bytes { text.new.bytes ≡ text.old.bytes ++ spec.discard_line kind live outlook.now }
+    ensures len { array_string_len text.new ≤ array_string_len text.old + MOST_OUTLOOK }
 {
     text.push_str("  discard ");
     push_kind(text, kind);
