@@ -86,11 +86,11 @@ row 2 '' "invalid value '0' for '--workers <N>'" score --workers 0 file
 row 2 '' "invalid value '17' for '--workers <N>'" score --workers 17 file
 row 2 '' "invalid value 'many' for '--workers <N>'" score --workers many file
 row 0 'riichi_desk 0.1.0' '' --version
-for command in '' win waits shape line explain replay score game need seats standings help-yaku help-codes help-rules; do
+for command in '' win waits shape line explain study replay score game need seats standings help-yaku help-codes help-rules; do
   told "the help of riichi_desk $command says the program's own name" 'Usage: riichi_desk' "$("$program" $command --help | grep -oE '^Usage: [a-z_]+')"
   told "the help of riichi_desk $command has the exit statuses" 5 "$("$program" $command --help | sed -n '/^Exit status:$/,$p' | grep -cE '^  [0-4]  ')"
 done
-told 'the help names the commands' 14 "$("$program" --help | grep -cE '^  (win|waits|shape|line|explain|replay|score|game|need|seats|standings|help-codes|help-rules|help-yaku) ')"
+told 'the help names the commands' 15 "$("$program" --help | grep -cE '^  (win|waits|shape|line|explain|study|replay|score|game|need|seats|standings|help-codes|help-rules|help-yaku) ')"
 
 for words in --help help-codes; do
   told "$words and a full disk" "riichi_desk: fault F2
@@ -648,6 +648,8 @@ row 1 $'table 0\nrefused H2\nrefused H2' "good.game: $note" score "$room/good.ga
 told 'a text of games is said to be one once' 1 "$("$program" line --file "$room/good.game" 2>&1 > /dev/null | grep -c "$note")"
 printf 'games Anna\n' > "$room/input"
 told 'another word is no game' 0 "$("$program" line < "$room/input" 2>&1 > /dev/null | grep -c "$note")"
+# questions of a player or a trainer
+. tests/study.sh
 # the standings of a tournament
 . tests/standings.sh
 told 'the words of need' 'Usage: riichi_desk need [OPTIONS] <NAME> [PLACE] <FILE>' "$("$program" need --help | grep '^Usage')"

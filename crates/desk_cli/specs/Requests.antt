@@ -11,7 +11,7 @@ use Rattle.clap.specs.Walk.{rows_of}
 use Rattle.clap.specs.declared.parser.matches.ArgMatches.{ArgMatches}
 use Rattle.clap.specs.declared.parser.matches.Found.{Found}
 use Rattle.riichi_hand.specs.RulesText.{NamesRules, IsWrongAt}
-use Rattle.desk_cli.specs.Commands.{command_named, is_job}
+use Rattle.desk_cli.specs.Commands.{command_named, is_job, is_question}
 use Rattle.desk_cli.specs.declared.command.CommandName.{CommandName}
 use Rattle.desk_cli.specs.declared.command.CommandName.TheVariants as commands
 use Rattle.desk_cli.specs.declared.request.Form.{Form}
@@ -102,6 +102,18 @@ AreExplained found (sources.One words) = (words_under found (codes "file") ≡ N
 AreExplained found (sources.Each words) = (words_under found (codes "file") ≡ None) × (words_under found (codes "LINE") ≡ Some (texts words.now)) × (are_one_line (texts words.now) ≡ false)
 AreExplained found other = ⊥
 
+-- the words are one question where the first begins one
+abbrev pub are_one_question : List (List ℕ) → Bool
+are_one_question words = option_map_or is_question (slice_get words 0) false
+
+-- questions from the same places
+abbrev pub AreStudied : Found → Lines → Type 0
+AreStudied found sources.Input = (words_under found (codes "file") ≡ None) × (words_under found (codes "LINE") ≡ None)
+AreStudied found (sources.Files files) = words_under found (codes "file") ≡ Some (texts files.now)
+AreStudied found (sources.One words) = (words_under found (codes "file") ≡ None) × (words_under found (codes "LINE") ≡ Some (texts words.now)) × (are_one_question (texts words.now) ≡ true)
+AreStudied found (sources.Each words) = (words_under found (codes "file") ≡ None) × (words_under found (codes "LINE") ≡ Some (texts words.now)) × (are_one_question (texts words.now) ≡ false)
+AreStudied found other = ⊥
+
 -- one line: the command as its job, the hand, and what is told of it
 abbrev pub IsRecordLine : CommandName → Found → Lines → Type 0
 IsRecordLine command found (sources.Record job hand words) =
@@ -153,6 +165,11 @@ AsksForRecord command found (Some (requests.Waits hand)) =
     (is_bare command found ≡ true) × (first_value found (codes "HAND") ≡ Some hand.now)
 AsksForRecord command found (Some other) =
     (is_bare command found ≡ false) × AsksForLines found (IsRecord command found) other
+
+-- questions are to be answered
+abbrev pub AsksForStudy : Found → Request → Type 0
+AsksForStudy found (requests.Study lines is_numbered) = AreStudied found lines × IsFlag found (codes "number") is_numbered
+AsksForStudy found other = ⊥
 
 abbrev pub AsksForReplay : Found → Option Request → Type 0
 AsksForReplay found None = first_value found (codes "FILE") ≡ None
@@ -299,6 +316,7 @@ IsSome Is (Some request) = Is request
 abbrev pub IsAsked : CommandName → Found → Option Request → Type 0
 IsAsked commands.Line found asked = IsSome (AsksForLines found (IsLine found)) asked
 IsAsked commands.Explain found asked = IsSome (AsksForLines found (IsExplain found)) asked
+IsAsked commands.Study found asked = IsSome (AsksForStudy found) asked
 IsAsked commands.Replay found asked = AsksForReplay found asked
 IsAsked commands.Score found asked = AsksForScore found asked
 IsAsked commands.Game found asked = IsSome (AsksForGames found) asked

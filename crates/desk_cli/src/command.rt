@@ -10,6 +10,7 @@ pub enum CommandName {
     Shape,
     Line,
     Explain,
+    Study,
     Replay,
     Score,
     Game,
@@ -22,12 +23,13 @@ pub enum CommandName {
 }
 
 impl CommandName {
-    pub(crate) const ALL: [CommandName; 14] = [
+    pub(crate) const ALL: [CommandName; 15] = [
         CommandName::Win,
         CommandName::Waits,
         CommandName::Shape,
         CommandName::Line,
         CommandName::Explain,
+        CommandName::Study,
         CommandName::Replay,
         CommandName::Score,
         CommandName::Game,
@@ -52,6 +54,7 @@ impl CommandName {
             CommandName::Shape => "shape",
             CommandName::Line => "line",
             CommandName::Explain => "explain",
+            CommandName::Study => "study",
             CommandName::Replay => "replay",
             CommandName::Score => "score",
             CommandName::Game => "game",
@@ -82,4 +85,11 @@ pub(crate) fn is_job(word: &str) -> bool
     CommandName::JOBS
         .iter()
         .any(|command| command.word() == word)
+}
+
+/// Whether a question may begin with this word.
+pub(crate) fn is_question(word: &str) -> bool
+    ensures { result ≡ spec.is_question word.now }
+{
+    word == "shape" || word == "calls"
 }

@@ -69,6 +69,20 @@ Exit status:
 "
 );
 
+pub(crate) const STUDY_HELP: &str = with_statuses!(
+    "\
+Example:
+  riichi_desk study shape 45678m345p2467s88s order=good
+  riichi_desk study calls 234m45678p34s558s tile=3p from=left
+
+Lines:
+  shape HAND [open=MELDS] [seen=TILES] [order=live|second|good]
+  calls HAND tile=T from=left|across|right [open=MELDS] [seen=TILES]
+
+Exit status:
+"
+);
+
 pub(crate) const CODES_HELP: &str = with_statuses!(
     "\
 Example:

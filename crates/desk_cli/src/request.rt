@@ -5,7 +5,7 @@ ghost use Rattle.riichi_hand.specs.RulesText.{NamesRules};
 ghost use Rattle.desk_cli.specs.declared.command.CommandName.{CommandName};
 ghost use Rattle.desk_cli.specs.Requests as spec;
 
-use crate::command::{CommandName, is_job};
+use crate::command::{CommandName, is_job, is_question};
 use clap::ArgMatches;
 use riichi_hand::{Rules, read_rules};
 
@@ -22,6 +22,12 @@ pub enum Request<'m, 'a> {
         manner: Manner,
         /// Whether it isn't to be shown how far the answers are, as ever where the lines come from no files.
         is_quiet: bool,
+    },
+    /// The answers to questions of a player or a trainer.
+    Study {
+        lines: Lines<'m, 'a>,
+        /// Whether each answer stands behind the number of its line.
+        is_numbered: bool,
     },
     /// Every code in words.
     HelpCodes,
@@ -215,6 +221,7 @@ fn command_request<'m, 'a>(
     match command {
         CommandName::Line => Some(line_request(words)),
         CommandName::Explain => Some(explain_request(words)),
+        CommandName::Study => Some(study_request(words)),
         CommandName::Replay => replay_request(words),
         CommandName::Score => score_request(words),
         CommandName::Game => Some(games_request(words)),
@@ -246,6 +253,19 @@ fn explain_request<'m, 'a>(words: &'m ArgMatches<'a>) -> Request<'m, 'a>
         files => files,
     };
     lines_request(words, lines, reasons_in(words), true)
+}
+
+fn study_request<'m, 'a>(words: &'m ArgMatches<'a>) -> Request<'m, 'a>
+    ensures { spec.AsksForStudy (found_of words.now) result }
+{
+    let lines = match files_or_input(words) {
+        Lines::Input => told_questions(words),
+        files => files,
+    };
+    Request::Study {
+        lines,
+        is_numbered: words.get_flag("number"),
+    }
 }
 
 /// What a command asks for that is named by the job of its record: the waits of a hand alone are those of a text of tiles.
@@ -548,6 +568,32 @@ fn told_lines<'m, 'a>(words: &'m ArgMatches<'a>) -> Lines<'m, 'a>
                 Lines::Each(told)
             }
         }
+    }
+}
+
+/// The questions that are told as words: one where the first word begins it, else each word is one.
+fn told_questions<'m, 'a>(words: &'m ArgMatches<'a>) -> Lines<'m, 'a>
+    ensures { spec.words_under (found_of words.now) (codes "file") ≡ None
+        → spec.AreStudied (found_of words.now) result }
+{
+    match words.get_strs("LINE") {
+        None => Lines::Input,
+        Some(told) => {
+            if are_one_question(told) {
+                Lines::One(told)
+            } else {
+                Lines::Each(told)
+            }
+        }
+    }
+}
+
+fn are_one_question(words: &[&str]) -> bool
+    ensures { result ≡ spec.are_one_question (spec.texts words.now) }
+{
+    match words.first() {
+        Some(word) => is_question(word),
+        None => false,
     }
 }
 

@@ -2,8 +2,8 @@
 use crate::command::CommandName;
 use crate::help::{
     CODES_HELP, EXPLAIN_HELP, GAME_HELP, LINE_HELP, NEED_HELP, PROGRAM_HELP, REPLAY_HELP,
-    RULES_HELP, SCORE_HELP, SEATS_HELP, SHAPE_HELP, STANDINGS_HELP, WAITS_HELP, WIN_HELP,
-    YAKU_HELP,
+    RULES_HELP, SCORE_HELP, SEATS_HELP, SHAPE_HELP, STANDINGS_HELP, STUDY_HELP, WAITS_HELP,
+    WIN_HELP, YAKU_HELP,
 };
 use clap::{Arg, ArgAction, Command, value_parser};
 use std::alloc::{AllocError, Global};
@@ -37,6 +37,7 @@ fn command<'a>(alloc: Global, name: CommandName) -> Result<Command<'a>, AllocErr
         CommandName::Shape => shape_command(alloc),
         CommandName::Line => line_command(alloc),
         CommandName::Explain => explain_command(alloc),
+        CommandName::Study => study_command(alloc),
         CommandName::Replay => replay_command(alloc),
         CommandName::Score => score_command(alloc),
         CommandName::Game => game_command(alloc),
@@ -227,6 +228,24 @@ fn lines_arg<'a>(alloc: Global) -> Result<Arg<'a>, AllocError> {
         alloc,
         "LINE",
         "The words of one hand, or hands each in quotes; without any, the lines of standard input",
+    );
+    lines.num_args(0..).conflicts_with("file")
+}
+
+fn study_command<'a>(alloc: Global) -> Result<Command<'a>, AllocError> {
+    let lines = questions_arg(alloc)?;
+    let args = vec![in alloc; file_arg(alloc), number_arg(alloc), lines]?;
+    let about =
+        "Answers a player's questions: what stands beyond a hand's next step, and which calls help";
+    named(alloc, CommandName::Study, about, STUDY_HELP).args(args)
+}
+
+/// The questions, in place of files.
+fn questions_arg<'a>(alloc: Global) -> Result<Arg<'a>, AllocError> {
+    let lines = words_of(
+        alloc,
+        "LINE",
+        "The words of one question, or questions each in quotes; without any, those of standard input",
     );
     lines.num_args(0..).conflicts_with("file")
 }

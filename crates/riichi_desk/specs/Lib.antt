@@ -2,6 +2,7 @@ pub mod Answering
 pub mod Games
 pub mod Needing
 pub mod Told
+pub mod Studies
 pub mod Failures
 pub mod Outcomes
 pub mod Slips

@@ -9,6 +9,7 @@ use Rattle.riichi_desk.specs.declared.scoring.ScoreLimit.TheVariants.{Files}
 use Rattle.riichi_desk.specs.Failures.{IsUnknownRule}
 use Rattle.riichi_desk.specs.declared.failure.Failure.{Failure}
 use Rattle.riichi_desk.specs.declared.failure.Failure.TheVariants.{Score, UnknownPlace}
+use Rattle.riichi_desk.specs.Studies.{TellsStudied}
 use Rattle.riichi_desk.specs.Told.{TellsRefused}
 
 -- The waits of a hand alone are refused where its text is none of tiles, or has another number than thirteen.
@@ -32,6 +33,7 @@ IsCarriedOut (requests.UnknownRules word) outcome = TellsUnknown word.now outcom
 IsCarriedOut (requests.Waits hand) outcome = IfOk outcome (TellsWaits hand.now)
 IsCarriedOut (requests.Lines lines manner is_quiet) outcome = IfOk outcome (TellsRefused manner.rules lines)
 IsCarriedOut (requests.Score files workers rules is_numbered is_quiet) outcome = 64 < length files.now → outcome ≡ Err (Score (Files (length files.now)))
+IsCarriedOut (requests.Study lines is_numbered) outcome = IfOk outcome (TellsStudied lines)
 IsCarriedOut (requests.Replay file) outcome = Unit {0}
 IsCarriedOut (requests.Games files manner) outcome = Unit {0}
 IsCarriedOut (requests.Need need) outcome = Unit {0}

@@ -22,6 +22,7 @@ use crate::rules::print_rules;
 use crate::scoring::{Scoring, score_files};
 use crate::seats::answer_seats;
 use crate::standings::answer_standings;
+use crate::studies::answer_studies;
 use crate::version::print_version;
 use crate::yaku::print_yaku;
 use clap::error::ErrorKind;
@@ -154,6 +155,9 @@ fn answer_request<'a, R: Input + Print + Eprint + Files + Clock + Threads + Sync
         Request::Waits(hand) => print_waits(rt, notes, terminals, *hand),
         Request::Lines { lines, manner, .. } => {
             answer_lines(rt, notes, progress, terminals, *lines, *manner)
+        }
+        Request::Study { lines, is_numbered } => {
+            answer_studies(rt, notes, progress, *lines, *is_numbered)
         }
         Request::HelpCodes => print_codes(rt, notes),
         Request::HelpRules => print_rules(rt, notes),

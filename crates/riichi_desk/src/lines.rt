@@ -126,7 +126,7 @@ impl<W: Sink> Answering<W> {
 }
 
 /// The words, each with its line feed.
-fn each_line(alloc: Global, words: &[&str]) -> Result<String, AllocError>
+pub(crate) fn each_line(alloc: Global, words: &[&str]) -> Result<String, AllocError>
     ensures { IfOk result (λ text. string_bytes text ≡ told.each_line (texts words.now)) }
 {
     let mut text = String::new(alloc);
@@ -138,7 +138,7 @@ fn each_line(alloc: Global, words: &[&str]) -> Result<String, AllocError>
 }
 
 /// The words, parted by spaces.
-fn one_line(alloc: Global, words: &[&str]) -> Result<String, AllocError>
+pub(crate) fn one_line(alloc: Global, words: &[&str]) -> Result<String, AllocError>
     ensures { IfOk result (λ text. string_bytes text ≡ told.one_line (texts words.now)) }
 {
     let Some((first, others)) = words.split_first() else {

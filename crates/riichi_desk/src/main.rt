@@ -1,7 +1,7 @@
 //! The program `riichi_desk`: a scoring desk for riichi mahjong.
 //!
 //! `desk_cli` reads the command line into a `Request`, `answers` carries it out, `lines` over record lines, which `answering`
-//! answers in their form, and `scoring` over the files of tables, `codes`, `yaku`, `rules` and `version` print what they are named for. `failure` says what is written on standard
+//! answers in their form, `studies` over questions, and `scoring` over the files of tables, `codes`, `yaku`, `rules` and `version` print what they are named for. `failure` says what is written on standard
 //! error and with which exit status the program ends; `noted` keeps what the system said of a stream that failed, `slips` says which
 //! line of a text set no profile, `beside` on a terminal what a refusal means, and `progress` shows there how far the answers are.
 //! What is said of texts and lines is made by `desk_notes`.
@@ -24,6 +24,7 @@ mod scoring;
 mod seats;
 mod slips;
 mod standings;
+mod studies;
 mod version;
 mod yaku;
 

@@ -1,0 +1,28 @@
+//! The keys that a study line can have and a shape line can't.
+ghost use Rattle.std.specs.Prelude.{◌≡◌};
+
+/// A key of a study line's own.
+#[derive(Clone, Copy, Debug, PartialEq, Eq)]
+pub enum StudyKey {
+    /// By what the discards of a shape are put in order.
+    Order,
+    /// The tile that another player has thrown.
+    Tile,
+    /// Who has thrown it.
+    From,
+}
+
+impl StudyKey {
+    ghost use Rattle.riichi_study.specs.Words.{key_word};
+
+    /// Its name, which stands before `=`.
+    pub fn name(self) -> &'static str
+        ensures { result.now ≡ key_word self }
+    {
+        match self {
+            StudyKey::Order => "order",
+            StudyKey::Tile => "tile",
+            StudyKey::From => "from",
+        }
+    }
+}

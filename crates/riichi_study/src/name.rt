@@ -1,0 +1,40 @@
+//! The jobs of a study line.
+ghost use Rattle.std.specs.Prelude.{◌≡◌};
+ghost use Rattle.riichi_study.specs.Words as spec;
+
+use crate::key::StudyKey;
+use crate::words::own_value;
+
+/// What a study line asks, by its first word.
+#[derive(Clone, Copy, Debug, PartialEq, Eq)]
+pub enum StudyName {
+    /// How far a hand is from a win, and what stands beyond its next step.
+    Shape,
+    /// Which calls of a thrown tile bring a hand nearer.
+    Calls,
+}
+
+impl StudyName {
+    pub(crate) fn read(word: &[u8]) -> Option<StudyName>
+        ensures { result ≡ spec.study_named word.now }
+    {
+        match word {
+            b"shape" => Some(StudyName::Shape),
+            b"calls" => Some(StudyName::Calls),
+            _ => None,
+        }
+    }
+
+    /// Whether a word has a key that a study line of this job can have and a shape line can't.
+    pub(crate) fn is_own(self, word: &[u8]) -> bool
+        ensures { result ≡ spec.is_own self word.now }
+    {
+        match self {
+            StudyName::Shape => own_value(StudyKey::Order, word).is_some(),
+            StudyName::Calls => {
+                own_value(StudyKey::Tile, word).is_some()
+                    || own_value(StudyKey::From, word).is_some()
+            }
+        }
+    }
+}

@@ -1,0 +1,13 @@
+//! What a study line asks.
+use crate::call_record::CallRecord;
+use crate::order::Order;
+use riichi_hand::ShapeRecord;
+
+/// A question of a player or a trainer.
+#[derive(Clone, Copy, Debug, PartialEq, Eq)]
+pub enum Study {
+    /// How far is this hand from a win, which tiles bring it nearer, and what stands beyond? The discards come in this order.
+    Shape(ShapeRecord, Order),
+    /// Which calls of this tile bring this hand nearer?
+    Calls(CallRecord),
+}

@@ -1,0 +1,29 @@
+//! The values of a thrown tile and of who has thrown it.
+ghost use Rattle.std.specs.Prelude.{◌≡◌};
+ghost use Rattle.riichi_study.specs.Values as spec;
+
+use riichi_deeper::Thrower;
+use riichi_tiles::{Kind, read_counts};
+
+/// The kind of the only tile that a text spells.
+#[tactic(auto, unfolding(crate::specs::Values::tile_named))]
+pub(crate) fn read_tile(value: &[u8]) -> Option<Kind>
+    ensures { result ≡ spec.tile_named value.now }
+{
+    match read_counts(value) {
+        Ok(counts) if counts.total() == 1 => counts.lowest(),
+        _ => None,
+    }
+}
+
+/// Who has thrown a tile.
+pub(crate) fn read_thrower(value: &[u8]) -> Option<Thrower>
+    ensures { result ≡ spec.thrower_of value.now }
+{
+    match value {
+        b"left" => Some(Thrower::Left),
+        b"across" => Some(Thrower::Across),
+        b"right" => Some(Thrower::Right),
+        _ => None,
+    }
+}
