@@ -1,0 +1,113 @@
+//! The draws that bring a hand near enough, by the kinds that it accepts.
+ghost use Rattle.std.specs.Prelude.{◌≡◌, ◌<◌, ◌≤◌, slice_index, true};
+ghost use Rattle.riichi_hand.specs.Hand.{copies_with, is_thirteen, size};
+ghost use Rattle.riichi_shape.specs.Accepted.{accepted_of};
+ghost use Rattle.riichi_shape.specs.Discards.{discards_of};
+ghost use Rattle.riichi_shape.specs.EveryWinning.{distance_of};
+ghost use Rattle.riichi_chances.specs.Aims as spec;
+
+use crate::goal::Goal;
+use crate::span::{ByTurns, Span, add_times, keep_greater};
+use crate::tiles::{with_tile, without_tile};
+use riichi_hand::ShapeRecord;
+use riichi_shape::{Accepts, DiscardList, LiveList, RowSource, shape_with};
+use riichi_tiles::Kind;
+
+/// What is asked of a hand, and of each that it leads to.
+#[derive(Clone, Copy)]
+pub(crate) struct Aim {
+    pub goal: Goal,
+    pub span: Span,
+}
+
+/// The numbers of thirteen tiles.
+#[tactic(none)]
+#[cycle(counting)]
+pub(crate) fn counts<R: RowSource>(source: &mut R, asked: &ShapeRecord, aim: &Aim) -> ByTurns
+    requires thirteen { is_thirteen asked.now.tiles asked.now.melds ≡ true }
+    requires turns { aim.now.span.turns ≤ 18 }
+    requires unseen { aim.now.span.unseen ≤ 136 }
+    ensures value { spec.HasCounts aim.now asked.now result }
+    ensures stays { source.new ≡ source.old }
+{
+    let answer = shape_with(source, asked);
+    if aim.goal.is_reached(answer.shanten) {
+        return aim.span.all_draws();
+    }
+    match &answer.accepts {
+        Accepts::Thirteen(accepted) => {
+            let gains = gains(source, asked, accepted, aim);
+            aim.span.follow(accepted.live() as u8, &gains)
+        }
+        Accepts::Fourteen(_) => unreachable!(),
+    }
+}
+
+/// Over the kinds that thirteen tiles accept, the sum of the live copies times the numbers that they lead to.
+#[tactic(none)]
+#[cycle(counting)]
+fn gains<R: RowSource>(source: &mut R, asked: &ShapeRecord, accepted: &LiveList, aim: &Aim) -> ByTurns
+    requires thirteen { is_thirteen asked.now.tiles asked.now.melds ≡ true }
+    requires accepted { accepted.now ≡ accepted_of asked.now.tiles asked.now.melds asked.now.seen }
+    requires turns { aim.now.span.turns ≤ 18 }
+    requires unseen { aim.now.span.unseen ≤ 136 }
+    ensures value { spec.HasGains aim.now asked.now result }
+    ensures stays { source.new ≡ source.old }
+{
+    let copies = accepted.copies();
+    let mut sums = [0; 19];
+    for number in 0..34u8 {
+        let live = copies[number as usize];
+        if live > 0 {
+            let drawn = with_tile(asked, Kind::at(number));
+            let numbers = counts_with(source, &drawn, aim);
+            add_times(&mut sums, &numbers, live, aim.span.turns);
+        }
+    }
+    sums
+}
+
+/// The numbers of fourteen tiles before a discard.
+#[tactic(none)]
+#[cycle(counting)]
+fn counts_with<R: RowSource>(source: &mut R, drawn: &ShapeRecord, aim: &Aim) -> ByTurns
+    requires fourteen { size drawn.now.tiles drawn.now.melds ≡ 14 }
+    requires turns { aim.now.span.turns ≤ 18 }
+    requires unseen { aim.now.span.unseen ≤ 136 }
+    ensures value { spec.HasCountsWith aim.now drawn.now result }
+    ensures stays { source.new ≡ source.old }
+{
+    let answer = shape_with(source, drawn);
+    if aim.goal.is_reached(answer.shanten) {
+        return aim.span.all_draws();
+    }
+    match &answer.accepts {
+        Accepts::Fourteen(discards) => best_rest(source, drawn, discards, aim),
+        Accepts::Thirteen(_) => unreachable!(),
+    }
+}
+
+/// The greatest numbers that any of the best discards leaves.
+#[tactic(none)]
+#[cycle(counting)]
+fn best_rest<R: RowSource>(source: &mut R, drawn: &ShapeRecord, discards: &DiscardList, aim: &Aim) -> ByTurns
+    requires fourteen { size drawn.now.tiles drawn.now.melds ≡ 14 }
+    requires discards { discards.now ≡ discards_of drawn.now.tiles drawn.now.melds drawn.now.seen }
+    requires far { 0 < distance_of drawn.now.tiles drawn.now.melds }
+    requires turns { aim.now.span.turns ≤ 18 }
+    requires unseen { aim.now.span.unseen ≤ 136 }
+    ensures value { spec.HasBestRest aim.now drawn.now result }
+    ensures stays { source.new ≡ source.old }
+{
+    let mut best = [0; 19];
+    for place in 0..discards.len() {
+        match discards.short_at(place) {
+            Some(discard) => {
+                let rest = without_tile(drawn, discard.kind);
+                keep_greater(&mut best, &counts(source, &rest, aim));
+            }
+            None => unreachable!(),
+        }
+    }
+    best
+}

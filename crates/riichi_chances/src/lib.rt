@@ -1,0 +1,10 @@
+//! Chances by turn.
+#![tactic(auto)]
+
+mod counting;
+mod goal;
+mod span;
+mod tiles;
+
+pub use goal::Goal;
+pub use span::MOST_TURNS;
