@@ -74,6 +74,7 @@ module _ (melds : List Meld) (melded : (kind : ℕ) → kind < 34 → tiles meld
             no e = cc
 
     pub passed_unseen : (kind : ℕ) → kind < 34 → 0 < live kind → unseen_of (parts_of hand melds seen) ≡ unseen_of (parts_of hand melds (with_one seen kind)) + 1
+    unfolding unseen_of
     passed_unseen kind inside some =
         every_but_one live (live_of hand melds (with_one seen kind)) kind inside (passed_live hand melds seen kind (omega (arith, know.seen_long, inside)) some)
 
@@ -126,6 +127,7 @@ module _ (melds : List Meld) (melded : (kind : ℕ) → kind < 34 → tiles meld
       }
 
       pub thrown_unseen : unseen_of (parts_of hand melds seen) ≡ unseen_of (parts_of (without_one drawn thrown) melds (with_one seen thrown)) + 1
+      unfolding unseen_of
       thrown_unseen =
           every_but_one live (live_of drawn melds seen) kind inside (drawn_live hand melds seen kind (omega (arith, know.long, inside)) some)
           ∙ ap (λ n. n + 1) (sym (every_same (live_of (without_one drawn thrown) melds (with_one seen thrown)) (live_of drawn melds seen) (λ k small. discard_live drawn melds seen thrown (omega (arith, drawn_long, low)) (omega (arith, know.seen_long, low)) held k)))
@@ -229,7 +231,7 @@ module _ (melds : List Meld) (melded : (kind : ℕ) → kind < 34 → tiles meld
             (later hand (with_one seen kind) told (n - 1) (passed hand seen told know kind inside alone) (one_fewer (unseen_of (parts_of hand melds (with_one seen kind))) (passed_unseen hand seen told know kind inside some))))
 
     pub one_turn : sum_by (λ kind. copies kind * after kind) every_kind ≡ (n - live_in (accepts (parts_of hand melds told))) * common + gains goal (n - 1) left told_value (parts_of hand melds told)
-    unfolding gains
+    unfolding gains unseen_of
     one_turn =
         let few = spread (λ k. cond (is_accepted hand melds seen k) (copies k) 0) 0 34 in
         let some = spread (λ k. cond (is_accepted hand melds seen k) (copies k * by k) 0) 0 34 in

@@ -1,4 +1,5 @@
 pub mod BoundLemmas
+pub mod ChanceLemmas
 pub mod CountedLemmas
 pub mod CountingLemmas
 pub mod LiveDraws
@@ -6,3 +7,4 @@ pub mod NearestLemmas
 pub mod SpanLemmas
 pub mod SumLemmas
 pub mod TileLemmas
+pub mod UnseenLemmas

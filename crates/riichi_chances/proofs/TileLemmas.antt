@@ -7,9 +7,13 @@ use Rattle.riichi_hand.specs.Hand.{IsShape, copies_with, is_thirteen, shape_of, 
 use Rattle.riichi_hand.specs.HandParts.{ShapeParts}
 use Rattle.riichi_hand.specs.declared.fault.LineFault.{LineFault}
 use Rattle.riichi_shape.specs.Accepted.{with_one, without_one}
-use Rattle.riichi_shape.proofs.ShapeFacts.{copies_few}
+use Rattle.riichi_shape.specs.Choosing.{LeavesLeast}
+use Rattle.riichi_shape.specs.EveryWinning.{distance_of}
+use Rattle.riichi_shape.proofs.Choices.{is_chosen}
+use Rattle.riichi_shape.proofs.ShapeFacts.{copies_few, melds_few}
 use Rattle.riichi_deeper.proofs.DrawnLemmas.{drawn_is, is_thirteen_by, shape_thirteen, sized_with}
 use Rattle.riichi_chances.specs.Counted.{parts_less}
+use Rattle.riichi_chances.proofs.NearestLemmas.{best_keeps}
 
 abbrev pub beside : ShapeParts → List ℕ → ShapeParts
 beside parts tiles = record { tiles = tiles; melds = parts.melds; seen = parts.seen }
@@ -53,3 +57,9 @@ module _ (parts : ShapeParts) (is : IsShape parts) (kind : ℕ) (inside : kind <
 
     pub left_thirteen : is_thirteen less parts.melds ≡ true
     left_thirteen = is_thirteen_by less parts.melds (ap (λ (counts : List ℕ). size counts parts.melds) left_tiles ∙ left_size)
+
+    module _ (best : LeavesLeast parts.tiles parts.melds kind) (far : 0 < distance_of parts.tiles parts.melds) where
+      pub left_as_near : distance_of less parts.melds ≡ distance_of parts.tiles parts.melds
+      left_as_near =
+          ap (λ (counts : List ℕ). distance_of counts parts.melds) left_tiles
+          ∙ best_keeps parts.tiles parts.melds whole_before fourteen (melds_few parts is) kind inside (is_chosen parts.tiles parts.melds kind best) far

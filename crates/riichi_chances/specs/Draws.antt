@@ -10,7 +10,7 @@ use Rattle.riichi_shape.specs.EveryWinning.{distance_of}
 use Rattle.riichi_deeper.specs.Drawn.{parts_with, parts_without}
 
 -- the tiles that are neither in the hand and its melds nor seen elsewhere
-abbrev pub unseen_of : ShapeParts → ℕ
+unfoldable pub unseen_of : ShapeParts → ℕ
 unseen_of parts = sum_by (live_of parts.tiles parts.melds parts.seen) every_kind
 
 -- how many ordered draws of so many tiles there are out of some: n (n - 1) (n - 2) ..
