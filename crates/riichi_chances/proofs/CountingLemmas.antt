@@ -24,6 +24,7 @@ use Rattle.riichi_chances.specs.Counted.{accepts, counted, counted_by, counted_r
 use Rattle.riichi_chances.specs.Draws.{all_draws, greatest, is_near}
 use Rattle.riichi_chances.specs.Numbers.{most_draws}
 use Rattle.riichi_chances.specs.declared.counting.Aim.{Aim}
+use Rattle.riichi_chances.specs.declared.goal.Goal.{Goal}
 use Rattle.riichi_chances.proofs.BoundLemmas.{accepted_few, all_few, counted_few, gains_few, times_few}
 use Rattle.riichi_chances.proofs.SpanLemmas.{all_none, next_fits, one_turn_more}
 
@@ -201,6 +202,25 @@ gains_at aim parts left = gains (lack_of aim.goal) (unseen_at aim.span left) lef
 pub record GainsSoFar (aim : Aim) (parts : ShapeParts) (copies sums : List ℕ) (number : ℕ) : Type 0 where
   pub at : (left : ℕ) → left < aim.span.turns → slice_index sums left + rest_of (gain_by aim parts left) copies number ≡ gains_at aim parts left
 
+-- the numbers of fourteen tiles where fewer turns are left than at first
+pub record HasLaterCounts (aim : Aim) (drawn : ShapeParts) (numbers : List ℕ) : Type 0 where
+  pub at : (left : ℕ) → left < aim.span.turns → slice_index numbers left ≡ counted_with (lack_of aim.goal) (unseen_at aim.span left) left (value_at aim left) drawn
+
+-- they are those of what is asked once a tile has been drawn
+pub later_counts : (aim later : Aim) (drawn : ShapeParts) (numbers : List ℕ) → later.goal ≡ aim.goal → later.span.turns + 1 ≡ aim.span.turns → later.span.unseen ≡ aim.span.unseen - 1 → HasCountsWith later drawn numbers → HasLaterCounts aim drawn numbers
+later_counts aim later drawn numbers goal_is turns unseen are = record {
+  at = λ left low.
+      are left (omega (arith, turns, low))
+      ∙ ap (λ n. counted_with (lack_of later.goal) n left (λ rest. counted (lack_of later.goal) rest n left) drawn) (same_unseen left low)
+      ∙ ap (λ (g : Goal). counted_with (lack_of g) (unseen_at aim.span left) left (λ rest. counted (lack_of g) rest (unseen_at aim.span left) left) drawn) goal_is;
+}
+  where
+    same_unseen : (left : ℕ) → left < aim.span.turns → unseen_at later.span left ≡ unseen_at aim.span left
+    same_unseen left low = omega (arith, turns, unseen, low)
+
+pub no_gains : (aim : Aim) (parts : ShapeParts) (sums : List ℕ) → aim.span.turns ≡ 0 → HasGains aim parts sums
+no_gains aim parts sums none left low = absurd (omega (arith, none, low))
+
 module _ (aim : Aim) (parts : ShapeParts) (copies : List ℕ) where
   pub gains_init : (accepted : List (ℕ × ℕ)) → accepted ≡ pairs_of copies → accepted ≡ accepted_of parts.tiles parts.melds parts.seen → GainsSoFar aim parts copies no_draws 0
   unfolding gains
@@ -210,10 +230,10 @@ module _ (aim : Aim) (parts : ShapeParts) (copies : List ℕ) where
 
   module _ (number : ℕ) (low : number < 34) where
     -- a kind with live copies
-    module _ (some : 0 < slice_index copies number) (place : ℕ) (drawn : ShapeParts) (place_is : place ≡ number) (drawn_is : drawn ≡ parts_with parts place) (numbers : List ℕ) (are : HasCountsWith aim drawn numbers) where
+    module _ (some : 0 < slice_index copies number) (place : ℕ) (drawn : ShapeParts) (place_is : place ≡ number) (drawn_is : drawn ≡ parts_with parts place) (numbers : List ℕ) (are : HasLaterCounts aim drawn numbers) where
       number_at : (left : ℕ) → left < aim.span.turns → slice_index copies number * slice_index numbers left ≡ gain_by aim parts left (number, slice_index copies number)
       number_at left small =
-          ap (λ n. slice_index copies number * n) (are left (omega (arith, small)) ∙ ap (counted_with (lack_of aim.goal) (unseen_at aim.span left) left (value_at aim left)) (drawn_is ∙ ap (parts_with parts) place_is))
+          ap (λ n. slice_index copies number * n) (are.at left small ∙ ap (counted_with (lack_of aim.goal) (unseen_at aim.span left) left (value_at aim left)) (drawn_is ∙ ap (parts_with parts) place_is))
 
       pub gains_step : (sums added after : List ℕ) → GainsSoFar aim parts copies sums number → ((left : ℕ) → left < aim.span.turns → slice_index added left ≡ slice_index sums left + slice_index copies number * slice_index numbers left) → after ≡ added → GainsSoFar aim parts copies after (number + 1)
       gains_step sums added after so_far more after_is = record {

@@ -22,12 +22,7 @@ pub struct Chance {
 }
 
 /// The chance of thirteen tiles in so many turns, by the play that has the most draws for just these turns.
-pub fn chance_of<R: RowSource>(
-    source: &mut R,
-    asked: &ShapeRecord,
-    goal: Goal,
-    turns: u8,
-) -> Chance
+pub fn chance_of<R: RowSource>(source: &mut R, asked: &ShapeRecord, goal: Goal, turns: u8) -> Chance
     requires thirteen { is_thirteen asked.now.tiles asked.now.melds ≡ true }
     requires turns { turns ≤ 18 }
     ensures reached { result.reached ≡ spec.draws (lack_of goal) asked.now turns }

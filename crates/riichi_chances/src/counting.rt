@@ -1,5 +1,5 @@
 //! The draws that bring a hand near enough, by the kinds that it accepts.
-ghost use Rattle.std.specs.Prelude.{◌≡◌, ◌<◌, ◌≤◌, slice_index, true};
+ghost use Rattle.std.specs.Prelude.{◌≡◌, ◌+◌, ◌-◌, ◌<◌, ◌≤◌, slice_index, true};
 ghost use Rattle.riichi_hand.specs.Hand.{copies_with, is_thirteen, size};
 ghost use Rattle.riichi_shape.specs.Accepted.{accepted_of};
 ghost use Rattle.riichi_shape.specs.Discards.{discards_of};
@@ -18,6 +18,24 @@ use riichi_tiles::Kind;
 pub(crate) struct Aim {
     pub goal: Goal,
     pub span: Span,
+}
+
+impl Aim {
+    /// What is asked of a hand once a tile has been drawn: a turn less, and a tile fewer unseen.
+    fn after_a_draw(&self) -> Aim
+        requires { 0 < self.now.span.turns }
+        ensures goal { result.goal ≡ self.now.goal }
+        ensures turns { result.span.turns + 1 ≡ self.now.span.turns }
+        ensures unseen { result.span.unseen ≡ self.now.span.unseen - 1 }
+    {
+        Aim {
+            goal: self.goal,
+            span: Span {
+                unseen: self.span.unseen.saturating_sub(1),
+                turns: self.span.turns - 1,
+            },
+        }
+    }
 }
 
 /// The numbers of thirteen tiles.
@@ -46,7 +64,12 @@ pub(crate) fn counts<R: RowSource>(source: &mut R, asked: &ShapeRecord, aim: &Ai
 /// Over the kinds that thirteen tiles accept, the sum of the live copies times the numbers that they lead to.
 #[tactic(none)]
 #[cycle(counting)]
-fn gains<R: RowSource>(source: &mut R, asked: &ShapeRecord, accepted: &LiveList, aim: &Aim) -> ByTurns
+fn gains<R: RowSource>(
+    source: &mut R,
+    asked: &ShapeRecord,
+    accepted: &LiveList,
+    aim: &Aim,
+) -> ByTurns
     requires thirteen { is_thirteen asked.now.tiles asked.now.melds ≡ true }
     requires accepted { accepted.now ≡ accepted_of asked.now.tiles asked.now.melds asked.now.seen }
     requires turns { aim.now.span.turns ≤ 18 }
@@ -54,13 +77,17 @@ fn gains<R: RowSource>(source: &mut R, asked: &ShapeRecord, accepted: &LiveList,
     ensures value { spec.HasGains aim.now asked.now result }
     ensures stays { source.new ≡ source.old }
 {
-    let copies = accepted.copies();
     let mut sums = [0; 19];
+    if aim.span.turns == 0 {
+        return sums;
+    }
+    let later = aim.after_a_draw();
+    let copies = accepted.copies();
     for number in 0..34u8 {
         let live = copies[number as usize];
         if live > 0 {
             let drawn = with_tile(asked, Kind::at(number));
-            let numbers = counts_with(source, &drawn, aim);
+            let numbers = counts_with(source, &drawn, &later);
             add_times(&mut sums, &numbers, live, aim.span.turns);
         }
     }
@@ -90,7 +117,12 @@ fn counts_with<R: RowSource>(source: &mut R, drawn: &ShapeRecord, aim: &Aim) -> 
 /// The greatest numbers that any of the best discards leaves.
 #[tactic(none)]
 #[cycle(counting)]
-fn best_rest<R: RowSource>(source: &mut R, drawn: &ShapeRecord, discards: &DiscardList, aim: &Aim) -> ByTurns
+fn best_rest<R: RowSource>(
+    source: &mut R,
+    drawn: &ShapeRecord,
+    discards: &DiscardList,
+    aim: &Aim,
+) -> ByTurns
     requires fourteen { size drawn.now.tiles drawn.now.melds ≡ 14 }
     requires discards { discards.now ≡ discards_of drawn.now.tiles drawn.now.melds drawn.now.seen }
     requires far { 0 < distance_of drawn.now.tiles drawn.now.melds }

@@ -22,8 +22,7 @@ impl Span {
     fn unseen_at(self, left: u8) -> u8
         ensures { result ≡ spec.unseen_at self left }
     {
-        self.unseen
-            .saturating_sub(self.turns.saturating_sub(left))
+        self.unseen.saturating_sub(self.turns.saturating_sub(left))
     }
 
     /// All draws of the turns that are left.

@@ -8,7 +8,7 @@ use Rattle.riichi_deeper.proofs.DeeperLemmas.{accepted_left}
 use Rattle.riichi_deeper.proofs.DrawnLemmas.{list_of_fourteen, list_of_thirteen, never_fourteen, never_thirteen, shanten_told}
 use Rattle.riichi_chances.specs.Aims.{lack_of, unseen_at, value_at}
 use Rattle.riichi_chances.specs.Counted.{accepts}
-use Rattle.riichi_chances.proofs.CountingLemmas.{best_at, best_end, best_init, best_step, drawn_nearer, far_some, far_with, followed, gains_bound, gains_end, gains_fit, gains_init, gains_same, gains_step, near_counted, near_with, never_past}
+use Rattle.riichi_chances.proofs.CountingLemmas.{best_at, best_end, best_init, best_step, drawn_nearer, far_some, far_with, followed, gains_bound, gains_end, gains_fit, gains_init, gains_same, gains_step, later_counts, near_counted, near_with, never_past, no_draws, no_gains}
 use Rattle.riichi_chances.proofs.counting.+counting.Goals as goal
 use Rattle.riichi_chances.proofs.counting.+counting.Goals.{gains-then-live-gt0, gains-else-live-gt0}
 
@@ -153,6 +153,15 @@ counts_with-returns-clause-stays g t c = c.best_rest.ensures.stays ∙ c.shape_w
 pub gains-loop-number-init : goal.gains-loop-number-init
 gains-loop-number-init g t c = record { stays = refl; so_far = gains_init c.args.aim.now c.args.asked.now c.copies-copies.result.now c.args.accepted.now c.copies-copies.ensures.value c.requires.accepted }
 
+pub gains-returns-then-aim-eq0-clause-value : goal.gains-returns-then-aim-eq0-clause-value
+gains-returns-then-aim-eq0-clause-value g t c = no_gains c.args.aim.now c.args.asked.now no_draws (omega (arith, c.if-aim-eq0.true))
+
+pub gains-returns-then-aim-eq0-clause-stays : goal.gains-returns-then-aim-eq0-clause-stays
+gains-returns-then-aim-eq0-clause-stays g t c = refl
+
+pub gains-after_a_draw-later-requires : goal.gains-after_a_draw-later-requires
+gains-after_a_draw-later-requires g t c = omega (arith, c.if-aim-eq0.false)
+
 pub gains-overflow_cast-live : goal.gains-overflow_cast-live
 gains-overflow_cast-live g t c = omega (arith, c.loop-number-test.true)
 
@@ -171,14 +180,14 @@ gains-with_tile-drawn-requires-clause-left g t c =
 
 pub gains-counts_with-numbers-requires : goal.gains-counts_with-numbers-requires
 gains-counts_with-numbers-requires g t c κs within =
-    (omega (arith, c.decreases, drawn_nearer c.args.asked.now c.copies-copies.result.now c.loop-number.number c.at.result c.with_tile-drawn.result (sym c.copies-copies.ensures.value ∙ c.requires.accepted) c.loop-number-test.true c.if-live-gt0.true c.at.ensures c.with_tile-drawn.ensures.value), (within, (c.with_tile-drawn.ensures.fourteen, (c.requires.turns, c.requires.unseen))))
+    (omega (arith, c.decreases, drawn_nearer c.args.asked.now c.copies-copies.result.now c.loop-number.number c.at.result c.with_tile-drawn.result (sym c.copies-copies.ensures.value ∙ c.requires.accepted) c.loop-number-test.true c.if-live-gt0.true c.at.ensures c.with_tile-drawn.ensures.value), (within, (c.with_tile-drawn.ensures.fourteen, (omega (arith, c.after_a_draw-later.ensures.turns, c.requires.turns), omega (arith, c.after_a_draw-later.ensures.unseen, c.requires.unseen)))))
 
 pub gains-add_times-requires-clause-turns : goal.gains-add_times-requires-clause-turns
 gains-add_times-requires-clause-turns g t c = c.requires.turns
 
 pub gains-add_times-requires-clause-fits : goal.gains-add_times-requires-clause-fits
 gains-add_times-requires-clause-fits g t c =
-    gains_fit c.args.aim.now c.args.asked.now c.copies-copies.result.now c.loop-number.number c.loop-number-test.true c.if-live-gt0.true c.at.result c.with_tile-drawn.result c.at.ensures c.with_tile-drawn.ensures.value c.counts_with-numbers.result c.counts_with-numbers.ensures.value c.loop-number.sums c.loop-number.invariant.so_far c.requires.turns c.requires.unseen
+    gains_fit c.args.aim.now c.args.asked.now c.copies-copies.result.now c.loop-number.number c.loop-number-test.true c.if-live-gt0.true c.at.result c.with_tile-drawn.result c.at.ensures c.with_tile-drawn.ensures.value c.counts_with-numbers.result (later_counts c.args.aim.now c.after_a_draw-later.result c.with_tile-drawn.result c.counts_with-numbers.result c.after_a_draw-later.ensures.goal c.after_a_draw-later.ensures.turns c.after_a_draw-later.ensures.unseen c.counts_with-numbers.ensures.value) c.loop-number.sums c.loop-number.invariant.so_far c.requires.turns c.requires.unseen
 
 pub gains-loop-number-smaller : goal.gains-loop-number-smaller
 gains-loop-number-smaller g t c = omega (arith, c.loop-number-test.true)
@@ -191,7 +200,7 @@ gains-loop-number-preserved g t c =
     elim c.if-live-gt0.branch [
       | gains-then-live-gt0 w ↦ record {
         stays = w.source-is ∙ w.counts_with-numbers.ensures.stays ∙ so_far.stays;
-        so_far = gains_step c.args.aim.now c.args.asked.now copies number c.loop-number-test.true w.if-live-gt0.true w.at.result w.with_tile-drawn.result w.at.ensures w.with_tile-drawn.ensures.value w.counts_with-numbers.result w.counts_with-numbers.ensures.value c.loop-number.sums w.add_times.new.sums c.if-live-gt0.sums so_far.so_far w.add_times.ensures w.sums-is;
+        so_far = gains_step c.args.aim.now c.args.asked.now copies number c.loop-number-test.true w.if-live-gt0.true w.at.result w.with_tile-drawn.result w.at.ensures w.with_tile-drawn.ensures.value w.counts_with-numbers.result (later_counts c.args.aim.now c.after_a_draw-later.result w.with_tile-drawn.result w.counts_with-numbers.result c.after_a_draw-later.ensures.goal c.after_a_draw-later.ensures.turns c.after_a_draw-later.ensures.unseen w.counts_with-numbers.ensures.value) c.loop-number.sums w.add_times.new.sums c.if-live-gt0.sums so_far.so_far w.add_times.ensures w.sums-is;
       }
       | gains-else-live-gt0 w ↦ record {
         stays = w.source-is ∙ so_far.stays;
