@@ -1,18 +1,18 @@
 -- No number of draws is more than those of 136 tiles.
-use Rattle.std.proofs.Common.{◌≡◌, ℕ, zero, suc, ◌+◌, ◌-◌, ◌*◌, ◌^◌, ◌<◌, ◌≤◌, Bool, true, false, cond, List, [], ◌∷◌, refl, ap, ◌∙◌, arith}
+use Rattle.std.proofs.Common.{◌≡◌, ℕ, zero, suc, ◌+◌, ◌-◌, ◌*◌, ◌^◌, ◌<◌, ◌≤◌, Bool, true, false, cond, List, [], ◌∷◌, refl, ap, arith}
 use Rattle.std.proofs.Math.Nat.{mul-le-mul}
 use Rattle.std.proofs.lemmas.List.Sums.{sum_by-cons}
-use Rattle.std.specs.Prelude.{nat_lt, sum_by}
+use Rattle.std.specs.Prelude.{sum_by}
 use Rattle.std.specs.List.{filter}
 use Rattle.riichi_hand.specs.HandParts.{ShapeParts}
 use Rattle.riichi_tiles.specs.Melds.{every_kind}
 use Rattle.riichi_rows.proofs.Spread.{spread_few}
-use Rattle.riichi_shape.specs.Accepted.{accepted_of, is_accepted, live_of}
+use Rattle.riichi_shape.specs.Accepted.{is_accepted, live_of}
 use Rattle.riichi_shape.specs.Discards.{is_discard}
 use Rattle.riichi_shape.specs.LiveCopies.{live_in}
 use Rattle.riichi_deeper.specs.Drawn.{parts_with}
-use Rattle.riichi_chances.specs.Counted.{accepts, counted, counted_by, counted_rest, counted_with, gains, parts_less}
-use Rattle.riichi_chances.specs.Draws.{all_draws, is_near}
+use Rattle.riichi_chances.specs.Counted.{accepts, counted_draws, counted_by, counted_rest, counted_with, accepted_draws, parts_less}
+use Rattle.riichi_chances.specs.Draws.{all_draws, is_there}
 use Rattle.riichi_chances.specs.Numbers.{most_draws}
 use Rattle.riichi_chances.proofs.CountedLemmas.{accepted_sum}
 use Rattle.riichi_chances.proofs.SumLemmas.{greatest_few}
@@ -36,7 +36,7 @@ accepted_few parts =
 module _ (goal unseen left most : ℕ) (value : ShapeParts → ℕ) (all : all_draws unseen left ≤ most) (each : (parts : ShapeParts) → value parts ≤ most) where
   pub with_few : (drawn : ShapeParts) → counted_with goal unseen left value drawn ≤ most
   unfolding counted_with counted_rest
-  with_few drawn = by_test (is_near goal drawn) (greatest_few (λ kind. value (parts_less drawn kind)) most (filter (is_discard drawn.tiles drawn.melds) every_kind) (λ k i. each (parts_less drawn k)))
+  with_few drawn = by_test (is_there goal drawn) (greatest_few (λ kind. value (parts_less drawn kind)) most (filter (is_discard drawn.tiles drawn.melds) every_kind) (λ k i. each (parts_less drawn k)))
     where
       by_test : {n : ℕ} (t : Bool) → n ≤ most → cond t (all_draws unseen left) n ≤ most
       by_test true few = all
@@ -51,8 +51,8 @@ module _ (goal unseen left most : ℕ) (value : ShapeParts → ℕ) (all : all_d
           → sum_by (counted_by goal unseen left value parts) (pair ∷ pairs) ≤ sum_by (λ pair. pair.1) (pair ∷ pairs) * most
       add l n rest few e e' small later = omega (arith, e, ap (λ m. m * most) e', times_few l l n most (omega arith) small, later)
 
-  pub gains_few : (parts : ShapeParts) → gains goal unseen left value parts ≤ live_in (accepts parts) * most
-  unfolding gains
+  pub gains_few : (parts : ShapeParts) → accepted_draws goal unseen left value parts ≤ live_in (accepts parts) * most
+  unfolding accepted_draws
   gains_few parts = sums_few parts (accepts parts)
 
 pub most_none : most_draws zero ≡ 1
@@ -68,17 +68,17 @@ pub step_few : (others some c g most : ℕ) → others + some ≤ 136 → c ≤ 
 step_few others some c g most few small more =
     omega (arith, times_few others others c most (omega arith) small, more, times_few (others + some) 136 most most few (omega arith))
 
-pub counted_few : (goal turns unseen : ℕ) (parts : ShapeParts) → unseen ≤ 136 → counted goal parts unseen turns ≤ most_draws turns
-unfolding counted most_draws
-counted_few goal zero unseen parts few = by_test (is_near goal parts) most_none
+pub counted_few : (goal turns unseen : ℕ) (parts : ShapeParts) → unseen ≤ 136 → counted_draws goal parts unseen turns ≤ most_draws turns
+unfolding counted_draws most_draws
+counted_few goal zero unseen parts few = by_test (is_there goal parts) most_none
   where
     by_test : (t : Bool) → most_draws zero ≡ 1 → cond t 1 0 ≤ most_draws zero
     by_test true e = omega (arith, e)
     by_test false e = omega (arith, e)
 counted_few goal (suc left) unseen parts few =
-    by_test (is_near goal parts) (all_few unseen (suc left) few)
-    (step_few (unseen - live) live (counted goal parts (unseen - 1) left) (gains goal (unseen - 1) left (λ rest. counted goal rest (unseen - 1) left) parts) (most_draws left) (omega (arith, few, accepted_few parts)) (counted_few goal left (unseen - 1) parts (omega arith))
-    (gains_few goal (unseen - 1) left (most_draws left) (λ rest. counted goal rest (unseen - 1) left) (all_few (unseen - 1) left (omega arith)) (λ rest. counted_few goal left (unseen - 1) rest (omega arith)) parts))
+    by_test (is_there goal parts) (all_few unseen (suc left) few)
+    (step_few (unseen - live) live (counted_draws goal parts (unseen - 1) left) (accepted_draws goal (unseen - 1) left (λ rest. counted_draws goal rest (unseen - 1) left) parts) (most_draws left) (omega (arith, few, accepted_few parts)) (counted_few goal left (unseen - 1) parts (omega arith))
+    (gains_few goal (unseen - 1) left (most_draws left) (λ rest. counted_draws goal rest (unseen - 1) left) (all_few (unseen - 1) left (omega arith)) (λ rest. counted_few goal left (unseen - 1) rest (omega arith)) parts))
   where
     live : ℕ
     live = live_in (accepts parts)

@@ -1,7 +1,7 @@
 -- The draws that lead there are no more than all.
 use Rattle.std.proofs.Common.{◌≡◌, ℕ, zero, suc, ◌+◌, ◌-◌, ◌*◌, ◌<◌, ◌≤◌, Bool, true, false, cond, List, refl, sym, ap, ◌∙◌, ⊎_elim, arith}
-use Rattle.std.proofs.lemmas.Bool.{and_parts, cases_lt, leb-false, lt-ltb, ltb-true}
-use Rattle.std.specs.Prelude.{nat_lt, sum_by, ◌&&◌}
+use Rattle.std.proofs.lemmas.Bool.{cases_lt, leb-false, lt-ltb}
+use Rattle.std.specs.Prelude.{sum_by, ◌&&◌}
 use Rattle.std.specs.List.{filter}
 use Rattle.riichi_tiles.specs.Melds.{every_kind, tiles}
 use Rattle.riichi_tiles.specs.declared.meld.Meld.{Meld}
@@ -11,8 +11,8 @@ use Rattle.riichi_shape.specs.Accepted.{is_accepted, live_of, with_one, without_
 use Rattle.riichi_shape.specs.Discards.{is_discard}
 use Rattle.riichi_shape.specs.EveryWinning.{distance_of}
 use Rattle.riichi_deeper.specs.Drawn.{parts_with, parts_without}
-use Rattle.riichi_chances.specs.Draws.{all_draws, best_rest, draws, draws_behind, is_near, parts_passed, unseen_of}
-use Rattle.riichi_chances.specs.Laws.{ChanceLaw, IsThirteen}
+use Rattle.riichi_chances.specs.Draws.{all_draws, best_rest, draws, draws_behind, is_there, parts_passed, unseen_of}
+use Rattle.riichi_chances.specs.Laws.{ChanceLaw}
 use Rattle.riichi_chances.proofs.BoundLemmas.{times_few}
 use Rattle.riichi_chances.proofs.CountedLemmas.{AgreeOnLacked, is_lacked, parts_of, passed, passed_unseen, thrown_left, thrown_unseen}
 use Rattle.riichi_chances.proofs.SumLemmas.{greatest_few}
@@ -39,7 +39,7 @@ module _ (melds : List Meld) (melded : (kind : ℕ) → kind < 34 → tiles meld
     one_fewer : (m : ℕ) → unseen_of (parts_of hand melds seen) ≡ m + 1 → n - 1 ≡ m
     one_fewer m e = omega (arith, n_is, e)
 
-    kept : (kind : ℕ) → kind < 34 → 0 < copies kind → is_lacked hand melds kind ≡ true → is_near goal (parts_with (parts_of hand melds seen) kind) ≡ false → best_rest (λ rest. draws goal rest left) (parts_with (parts_of hand melds seen) kind) ≤ most
+    kept : (kind : ℕ) → kind < 34 → 0 < copies kind → is_lacked hand melds kind ≡ true → is_there goal (parts_with (parts_of hand melds seen) kind) ≡ false → best_rest (λ rest. draws goal rest left) (parts_with (parts_of hand melds seen) kind) ≤ most
     kept kind inside some nearer not = greatest_few (λ thrown. draws goal (parts_without (parts_with (parts_of hand melds seen) kind) thrown) left) most (filter (is_discard (with_one hand kind) melds) every_kind) each
       where
         not_there : 0 < distance_of (with_one hand kind) melds
@@ -67,7 +67,7 @@ module _ (melds : List Meld) (melded : (kind : ℕ) → kind < 34 → tiles meld
 
         some_live : 0 < copies kind → copies kind * after kind ≤ copies kind * most
         some_live some =
-            let few = by_tests (is_near goal (parts_with (parts_of hand melds seen) kind)) (is_accepted hand melds seen kind) (is_lacked hand melds kind) (ap (λ t. t && is_lacked hand melds kind) (lt-ltb 0 (copies kind) some))
+            let few = by_tests (is_there goal (parts_with (parts_of hand melds seen) kind)) (is_accepted hand melds seen kind) (is_lacked hand melds kind) (ap (λ t. t && is_lacked hand melds kind) (lt-ltb 0 (copies kind) some))
             (all_draws (unseen_of (parts_of hand melds seen) - 1) left) (best_rest (λ rest. draws goal rest left) (parts_with (parts_of hand melds seen) kind)) (draws goal (parts_passed (parts_of hand melds seen) kind) left)
             (omega (arith, ap (λ m. all_draws (m - 1) left) n_is)) (λ not nearer. kept kind inside some nearer not)
             (λ alone. later hand (with_one seen kind) told (n - 1) (passed melds melded hand seen told know kind inside alone) (one_fewer (unseen_of (parts_of hand melds (with_one seen kind))) (passed_unseen melds melded hand seen told know kind inside some))) in
@@ -79,13 +79,13 @@ module _ (melds : List Meld) (melded : (kind : ℕ) → kind < 34 → tiles meld
 
   draws_few : (goal turns : ℕ) (hand seen told : List ℕ) (n : ℕ) → AgreeOnLacked hand melds seen told → n ≡ unseen_of (parts_of hand melds seen) → draws goal (parts_of hand melds seen) turns ≤ all_draws n turns
   unfolding draws
-  draws_few goal zero hand seen told n know n_is = by_test (is_near goal (parts_of hand melds seen)) (all_none n)
+  draws_few goal zero hand seen told n know n_is = by_test (is_there goal (parts_of hand melds seen)) (all_none n)
     where
       by_test : {m : ℕ} (t : Bool) → m ≡ 1 → cond t 1 0 ≤ m
       by_test true e = omega (arith, e)
       by_test false e = omega arith
   draws_few goal (suc left) hand seen told n know n_is =
-      by_test (is_near goal (parts_of hand melds seen)) (omega (arith, ap (λ m. all_draws m (suc left)) n_is)) (omega (arith, all_more n left, sum_few goal left (draws_few goal left) hand seen told know n n_is))
+      by_test (is_there goal (parts_of hand melds seen)) (omega (arith, ap (λ m. all_draws m (suc left)) n_is)) (omega (arith, all_more n left, sum_few goal left (draws_few goal left) hand seen told know n n_is))
     where
       by_test : {a b m : ℕ} (t : Bool) → a ≤ m → b ≤ m → cond t a b ≤ m
       by_test true here there = here

@@ -1,9 +1,9 @@
 -- The draws of the game are those that the accepted kinds tell.
 use Rattle.std.proofs.Common.{◌≡◌, ◌≢◌, ℕ, zero, suc, ◌+◌, ◌-◌, ◌*◌, ◌<◌, ◌≤◌, Bool, true, false, cond, List, length, get_or-set_other, refl, sym, ap, ◌∙◌, ⊎_elim, arith}
-use Rattle.std.proofs.lemmas.Bool.{and_from, and_parts, cases_eq, cases_lt, leb-false, lt-ltb, ltb-true, ltb-false}
+use Rattle.std.proofs.lemmas.Bool.{and_parts, cases_eq, cases_lt, leb-false, lt-ltb, ltb-true, ltb-false}
 use Rattle.std.proofs.lemmas.Bool.Decides.{nat_tests}
 use Rattle.std.proofs.lemmas.List.Sums.{sum_by-set}
-use Rattle.std.specs.Prelude.{nat_le, nat_lt, slice_index, sum_by, if◌then◌else◌, ◌&&◌}
+use Rattle.std.specs.Prelude.{nat_le, nat_lt, slice_index, sum_by, ◌&&◌}
 use Rattle.std.specs.List.{filter}
 use Rattle.riichi_hand.specs.Hand.{size}
 use Rattle.riichi_hand.specs.HandParts.{ShapeParts}
@@ -19,10 +19,10 @@ use Rattle.riichi_shape.proofs.Choices.{leaves_least}
 use Rattle.riichi_shape.proofs.LiveLemmas.{sum_filtered}
 use Rattle.riichi_deeper.proofs.DrawnLemmas.{more_here, more_other, size_with}
 use Rattle.riichi_deeper.specs.Drawn.{parts_with, parts_without}
-use Rattle.riichi_chances.specs.Counted.{accepts, counted, counted_by, counted_rest, counted_with, gains, parts_less}
-use Rattle.riichi_chances.specs.Draws.{all_draws, best_rest, draws, draws_behind, greatest, is_near, parts_passed, unseen_of}
-use Rattle.riichi_chances.specs.Laws.{CountedLaw, IsThirteen}
-use Rattle.riichi_chances.proofs.LiveDraws.{discard_live, drawn_live, every_but_one, every_same, of_every, passed_live}
+use Rattle.riichi_chances.specs.Counted.{accepts, counted_draws, counted_by, counted_rest, counted_with, accepted_draws, parts_less}
+use Rattle.riichi_chances.specs.Draws.{all_draws, best_rest, draws, draws_behind, is_there, parts_passed, unseen_of}
+use Rattle.riichi_chances.specs.Laws.{CountedLaw}
+use Rattle.riichi_chances.proofs.LiveDraws.{discard_live, drawn_live, every_but_one, every_same, passed_live}
 use Rattle.riichi_chances.proofs.NearestLemmas.{best_keeps, less_long, lowered_before, more_long, not_thrown}
 use Rattle.riichi_chances.proofs.SumLemmas.{chosen_few, greatest_same, parted, without_chosen}
 
@@ -151,8 +151,8 @@ module _ (melds : List Meld) (melded : (kind : ℕ) → kind < 34 → tiles meld
   -- ---- one turn
 
   module _ (goal left : ℕ)
-      (later : (hand seen told : List ℕ) (n : ℕ) → AgreeOnLacked hand melds seen told → n ≡ unseen_of (parts_of hand melds seen) → draws goal (parts_of hand melds seen) left ≡ counted goal (parts_of hand melds told) n left)
-      (hand seen told : List ℕ) (know : AgreeOnLacked hand melds seen told) (n : ℕ) (n_is : n ≡ unseen_of (parts_of hand melds seen)) (far : is_near goal (parts_of hand melds seen) ≡ false) where
+      (later : (hand seen told : List ℕ) (n : ℕ) → AgreeOnLacked hand melds seen told → n ≡ unseen_of (parts_of hand melds seen) → draws goal (parts_of hand melds seen) left ≡ counted_draws goal (parts_of hand melds told) n left)
+      (hand seen told : List ℕ) (know : AgreeOnLacked hand melds seen told) (n : ℕ) (n_is : n ≡ unseen_of (parts_of hand melds seen)) (far : is_there goal (parts_of hand melds seen) ≡ false) where
     abbrev copies : ℕ → ℕ
     copies = live_of hand melds seen
 
@@ -160,7 +160,7 @@ module _ (melds : List Meld) (melded : (kind : ℕ) → kind < 34 → tiles meld
     drawn_value rest = draws goal rest left
 
     abbrev told_value : ShapeParts → ℕ
-    told_value rest = counted goal rest (n - 1) left
+    told_value rest = counted_draws goal rest (n - 1) left
 
     abbrev after : ℕ → ℕ
     after kind = draws_behind goal left drawn_value (parts_of hand melds seen) kind
@@ -169,12 +169,12 @@ module _ (melds : List Meld) (melded : (kind : ℕ) → kind < 34 → tiles meld
     by kind = counted_with goal (n - 1) left told_value (parts_with (parts_of hand melds told) kind)
 
     abbrev common : ℕ
-    common = counted goal (parts_of hand melds told) (n - 1) left
+    common = counted_draws goal (parts_of hand melds told) (n - 1) left
 
     one_fewer : (m : ℕ) → unseen_of (parts_of hand melds seen) ≡ m + 1 → n - 1 ≡ m
     one_fewer m e = omega (arith, n_is, e)
 
-    kept : (kind : ℕ) → kind < 34 → 0 < copies kind → is_lacked hand melds kind ≡ true → is_near goal (parts_with (parts_of hand melds told) kind) ≡ false
+    kept : (kind : ℕ) → kind < 34 → 0 < copies kind → is_lacked hand melds kind ≡ true → is_there goal (parts_with (parts_of hand melds told) kind) ≡ false
         → best_rest drawn_value (parts_with (parts_of hand melds seen) kind) ≡ counted_rest told_value (parts_with (parts_of hand melds told) kind)
     unfolding counted_rest
     kept kind inside some nearer not =
@@ -194,7 +194,7 @@ module _ (melds : List Meld) (melded : (kind : ℕ) → kind < 34 → tiles meld
     unfolding counted_with
     accepted_value kind inside accepted =
         let tests = and_parts (nat_lt 0 (copies kind)) (is_lacked hand melds kind) accepted in
-        by_test (is_near goal (parts_with (parts_of hand melds told) kind)) (is_accepted hand melds seen kind) accepted
+        by_test (is_there goal (parts_with (parts_of hand melds told) kind)) (is_accepted hand melds seen kind) accepted
         (drawn_value (parts_passed (parts_of hand melds seen) kind)) (ap (λ m. all_draws (m - 1) left) (sym n_is)) (kept kind inside (ltb-true 0 (copies kind) tests.0) tests.1)
       where
         by_test : {a b c d : ℕ} (t u : Bool) → u ≡ true → (e : ℕ) → a ≡ c → (t ≡ false → b ≡ d) → cond t a (cond u b e) ≡ cond t c d
@@ -202,7 +202,7 @@ module _ (melds : List Meld) (melded : (kind : ℕ) → kind < 34 → tiles meld
         by_test false true is e here there = there refl
         by_test false false is e here there = absurd (cc)
 
-    no_nearer : (kind : ℕ) → is_lacked hand melds kind ≡ false → is_near goal (parts_with (parts_of hand melds seen) kind) ≡ false
+    no_nearer : (kind : ℕ) → is_lacked hand melds kind ≡ false → is_there goal (parts_with (parts_of hand melds seen) kind) ≡ false
     no_nearer kind not = told_far (distance_of (with_one hand kind) melds) (omega (arith, leb-false (distance_of hand melds) goal far, ltb-false (distance_of (with_one hand kind) melds) (distance_of hand melds) not))
       where
         told_far : (d : ℕ) → goal < d → nat_le d goal ≡ false
@@ -227,11 +227,11 @@ module _ (melds : List Meld) (melded : (kind : ℕ) → kind < 34 → tiles meld
         some_live some =
             let alone = not_lacked (nat_lt 0 (copies kind)) (is_lacked hand melds kind) not (lt-ltb 0 (copies kind) some) in
             ap (λ m. copies kind * m)
-            (by_test (all_draws (unseen_of (parts_of hand melds seen) - 1) left) (best_rest drawn_value (parts_with (parts_of hand melds seen) kind)) (is_near goal (parts_with (parts_of hand melds seen) kind)) (is_accepted hand melds seen kind) (no_nearer kind alone) not
+            (by_test (all_draws (unseen_of (parts_of hand melds seen) - 1) left) (best_rest drawn_value (parts_with (parts_of hand melds seen) kind)) (is_there goal (parts_with (parts_of hand melds seen) kind)) (is_accepted hand melds seen kind) (no_nearer kind alone) not
             (later hand (with_one seen kind) told (n - 1) (passed hand seen told know kind inside alone) (one_fewer (unseen_of (parts_of hand melds (with_one seen kind))) (passed_unseen hand seen told know kind inside some))))
 
-    pub one_turn : sum_by (λ kind. copies kind * after kind) every_kind ≡ (n - live_in (accepts (parts_of hand melds told))) * common + gains goal (n - 1) left told_value (parts_of hand melds told)
-    unfolding gains unseen_of
+    pub one_turn : sum_by (λ kind. copies kind * after kind) every_kind ≡ (n - live_in (accepts (parts_of hand melds told))) * common + accepted_draws goal (n - 1) left told_value (parts_of hand melds told)
+    unfolding accepted_draws unseen_of
     one_turn =
         let few = spread (λ k. cond (is_accepted hand melds seen k) (copies k) 0) 0 34 in
         let some = spread (λ k. cond (is_accepted hand melds seen k) (copies k * by k) 0) 0 34 in
@@ -245,11 +245,11 @@ module _ (melds : List Meld) (melded : (kind : ℕ) → kind < 34 → tiles meld
 
   -- ---- any number of turns
 
-  pub draws_counted : (goal turns : ℕ) (hand seen told : List ℕ) (n : ℕ) → AgreeOnLacked hand melds seen told → n ≡ unseen_of (parts_of hand melds seen) → draws goal (parts_of hand melds seen) turns ≡ counted goal (parts_of hand melds told) n turns
-  unfolding draws counted
+  pub draws_counted : (goal turns : ℕ) (hand seen told : List ℕ) (n : ℕ) → AgreeOnLacked hand melds seen told → n ≡ unseen_of (parts_of hand melds seen) → draws goal (parts_of hand melds seen) turns ≡ counted_draws goal (parts_of hand melds told) n turns
+  unfolding draws counted_draws
   draws_counted goal zero hand seen told n know n_is = refl
   draws_counted goal (suc left) hand seen told n know n_is =
-      by_test (is_near goal (parts_of hand melds seen)) (ap (λ m. all_draws m (suc left)) (sym n_is)) (one_turn goal left (draws_counted goal left) hand seen told know n n_is)
+      by_test (is_there goal (parts_of hand melds seen)) (ap (λ m. all_draws m (suc left)) (sym n_is)) (one_turn goal left (draws_counted goal left) hand seen told know n n_is)
     where
       by_test : {a b c d : ℕ} (t : Bool) → a ≡ c → (t ≡ false → b ≡ d) → cond t a b ≡ cond t c d
       by_test true here there = here

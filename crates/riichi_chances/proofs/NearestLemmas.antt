@@ -7,7 +7,6 @@ use Rattle.riichi_tiles.specs.Melds.{tiles}
 use Rattle.riichi_tiles.specs.declared.meld.Meld.{Meld}
 use Rattle.riichi_rows.specs.Lacked.{IsOneMore}
 use Rattle.riichi_shape.specs.Accepted.{with_one, without_one}
-use Rattle.riichi_shape.specs.Choosing.{LeavesLeast}
 use Rattle.riichi_shape.specs.Discards.{distance_without, is_discard}
 use Rattle.riichi_shape.specs.Distance.{IsDistance}
 use Rattle.riichi_shape.specs.EveryWinning.{distance_of}

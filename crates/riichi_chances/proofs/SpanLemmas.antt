@@ -1,9 +1,8 @@
 -- Numbers for each number of turns, one turn more.
-use Rattle.std.proofs.Common.{◌≡◌, ◌≢◌, ℕ, zero, suc, ◌+◌, ◌-◌, ◌*◌, ◌^◌, ◌<◌, ◌≤◌, List, length, get_or, slice_set, get_or-set_same, get_or-set_other, length-set, refl, sym, ap, subst, ◌∙◌, ⊎_elim, arith}
+use Rattle.std.proofs.Common.{◌≡◌, ◌≢◌, ℕ, suc, ◌+◌, ◌-◌, ◌*◌, ◌^◌, ◌<◌, ◌≤◌, List, length, get_or, slice_set, get_or-set_same, get_or-set_other, refl, sym, ap, subst, ◌∙◌, ⊎_elim, arith}
 use Rattle.std.proofs.lemmas.Bool.{cases_eq}
-use Rattle.riichi_chances.specs.Aims.{unseen_at}
 use Rattle.riichi_chances.specs.Draws.{all_draws}
-use Rattle.riichi_chances.specs.Numbers.{most_draws}
+use Rattle.riichi_chances.specs.Numbers.{most_draws, unseen_at}
 use Rattle.riichi_chances.specs.declared.span.Span.{Span}
 use Rattle.riichi_chances.proofs.BoundLemmas.{most_fits, most_more, step_few, times_few}
 

@@ -1,6 +1,5 @@
 -- Sums over kinds, of which some are told from the others.
-use Rattle.std.proofs.Common.{◌≡◌, ℕ, zero, suc, ◌+◌, ◌-◌, ◌*◌, ◌<◌, ◌≤◌, Bool, true, false, cond, max, List, [], ◌∷◌, inl, inr, refl, sym, ap, ◌∙◌, arith}
-use Rattle.std.specs.Prelude.{sum_by}
+use Rattle.std.proofs.Common.{◌≡◌, ℕ, zero, suc, ◌+◌, ◌-◌, ◌*◌, ◌<◌, ◌≤◌, Bool, true, false, cond, max, List, [], ◌∷◌, inl, inr, refl, ap, ◌∙◌, arith}
 use Rattle.riichi_rows.proofs.Spread.{spread}
 use Rattle.riichi_tiles.proofs.Members.{IsIn}
 use Rattle.riichi_chances.specs.Draws.{greatest}

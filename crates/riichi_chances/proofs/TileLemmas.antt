@@ -1,11 +1,10 @@
 -- A hand with other tiles is a shape again.
-use Rattle.std.proofs.Common.{◌≡◌, ◌≢◌, ℕ, ◌+◌, ◌-◌, ◌<◌, ◌≤◌, true, List, length, Ok, Result, get_or-set_same, get_or-set_other, length-set, sym, ap, subst, ◌∙◌, ⊎_elim, arith}
+use Rattle.std.proofs.Common.{◌≡◌, ℕ, ◌+◌, ◌-◌, ◌<◌, ◌≤◌, true, List, length, Ok, get_or-set_same, get_or-set_other, length-set, sym, ap, subst, ◌∙◌, ⊎_elim, arith}
 use Rattle.std.proofs.lemmas.Bool.{cases_eq}
 use Rattle.std.proofs.lemmas.List.Sums.{sum_by-set}
 use Rattle.std.specs.Prelude.{slice_index}
 use Rattle.riichi_hand.specs.Hand.{IsShape, copies_with, is_thirteen, shape_of, size}
 use Rattle.riichi_hand.specs.HandParts.{ShapeParts}
-use Rattle.riichi_hand.specs.declared.fault.LineFault.{LineFault}
 use Rattle.riichi_shape.specs.Accepted.{with_one, without_one}
 use Rattle.riichi_shape.specs.Choosing.{LeavesLeast}
 use Rattle.riichi_shape.specs.EveryWinning.{distance_of}

@@ -1,5 +1,5 @@
 -- How many tiles are unseen, kind by kind.
-use Rattle.std.proofs.Common.{◌≡◌, ℕ, suc, ◌+◌, ◌-◌, ◌*◌, ◌<◌, ◌≤◌, List, length, true, refl, ap, ◌∙◌, arith}
+use Rattle.std.proofs.Common.{◌≡◌, ℕ, suc, ◌+◌, ◌-◌, ◌<◌, List, length, true, refl, ap, arith}
 use Rattle.std.specs.Prelude.{slice_index}
 use Rattle.riichi_hand.specs.Hand.{IsShape, is_thirteen}
 use Rattle.riichi_hand.specs.HandParts.{ShapeParts}

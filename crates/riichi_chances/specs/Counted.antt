@@ -7,7 +7,7 @@ use Rattle.riichi_shape.specs.Accepted.{accepted_of, without_one}
 use Rattle.riichi_shape.specs.Discards.{is_discard}
 use Rattle.riichi_shape.specs.LiveCopies.{live_in}
 use Rattle.riichi_deeper.specs.Drawn.{parts_with}
-use Rattle.riichi_chances.specs.Draws.{all_draws, greatest, is_near}
+use Rattle.riichi_chances.specs.Draws.{all_draws, greatest, is_there}
 
 -- what the hand accepts, with the live copies
 abbrev pub accepts : ShapeParts → List (ℕ × ℕ)
@@ -23,18 +23,18 @@ counted_rest value drawn = greatest (λ kind. value (parts_less drawn kind)) (fi
 
 -- the number of a hand of fourteen tiles before its discard
 unfoldable pub counted_with : ℕ → ℕ → ℕ → (ShapeParts → ℕ) → ShapeParts → ℕ
-counted_with goal unseen left value drawn = if is_near goal drawn then all_draws unseen left else counted_rest value drawn
+counted_with goal unseen left value drawn = if is_there goal drawn then all_draws unseen left else counted_rest value drawn
 
 -- of the draws that begin with an accepted kind
 abbrev pub counted_by : ℕ → ℕ → ℕ → (ShapeParts → ℕ) → ShapeParts → ℕ × ℕ → ℕ
 counted_by goal unseen left value parts accepted = accepted.1 * counted_with goal unseen left value (parts_with parts accepted.0)
 
 -- of those that begin with any
-unfoldable pub gains : ℕ → ℕ → ℕ → (ShapeParts → ℕ) → ShapeParts → ℕ
-gains goal unseen left value parts = sum_by (counted_by goal unseen left value parts) (accepts parts)
+unfoldable pub accepted_draws : ℕ → ℕ → ℕ → (ShapeParts → ℕ) → ShapeParts → ℕ
+accepted_draws goal unseen left value parts = sum_by (counted_by goal unseen left value parts) (accepts parts)
 
-unfoldable pub counted : ℕ → ShapeParts → ℕ → ℕ → ℕ
-counted goal parts unseen zero = if is_near goal parts then 1 else 0
-counted goal parts unseen (suc left) =
-    if is_near goal parts then all_draws unseen (suc left)
-    else (unseen - live_in (accepts parts)) * counted goal parts (unseen - 1) left + gains goal (unseen - 1) left (λ rest. counted goal rest (unseen - 1) left) parts
+unfoldable pub counted_draws : ℕ → ShapeParts → ℕ → ℕ → ℕ
+counted_draws goal parts unseen zero = if is_there goal parts then 1 else 0
+counted_draws goal parts unseen (suc left) =
+    if is_there goal parts then all_draws unseen (suc left)
+    else (unseen - live_in (accepts parts)) * counted_draws goal parts (unseen - 1) left + accepted_draws goal (unseen - 1) left (λ rest. counted_draws goal rest (unseen - 1) left) parts

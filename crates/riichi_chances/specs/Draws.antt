@@ -19,8 +19,8 @@ all_draws unseen zero = 1
 all_draws unseen (suc turns) = unseen * all_draws (unseen - 1) turns
 
 -- a hand is near enough where it lacks no more tiles than this: none to win, one to be ready
-abbrev pub is_near : ℕ → ShapeParts → Bool
-is_near goal parts = nat_le (distance_of parts.tiles parts.melds) goal
+abbrev pub is_there : ℕ → ShapeParts → Bool
+is_there goal parts = nat_le (distance_of parts.tiles parts.melds) goal
 
 -- a tile of the kind is drawn, and thrown at once
 abbrev pub parts_passed : ShapeParts → ℕ → ShapeParts
@@ -38,13 +38,13 @@ best_rest value drawn = greatest (λ kind. value (parts_without drawn kind)) (fi
 -- of the draws that begin with a tile of the kind, how many lead there, by the value of thirteen tiles with the turns that are left
 abbrev pub draws_behind : ℕ → ℕ → (ShapeParts → ℕ) → ShapeParts → ℕ → ℕ
 draws_behind goal left value parts kind =
-    if is_near goal (parts_with parts kind) then all_draws (unseen_of parts - 1) left
+    if is_there goal (parts_with parts kind) then all_draws (unseen_of parts - 1) left
     else if is_accepted parts.tiles parts.melds parts.seen kind then best_rest value (parts_with parts kind)
     else value (parts_passed parts kind)
 
 -- of all ordered draws how many bring the hand near enough
 unfoldable pub draws : ℕ → ShapeParts → ℕ → ℕ
-draws goal parts zero = if is_near goal parts then 1 else 0
+draws goal parts zero = if is_there goal parts then 1 else 0
 draws goal parts (suc left) =
-    if is_near goal parts then all_draws (unseen_of parts) (suc left)
+    if is_there goal parts then all_draws (unseen_of parts) (suc left)
     else sum_by (λ kind. live_of parts.tiles parts.melds parts.seen kind * draws_behind goal left (λ rest. draws goal rest left) parts kind) every_kind

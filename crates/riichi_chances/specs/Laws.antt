@@ -3,7 +3,7 @@ use Rattle.std.specs.Prelude.{◌≡◌, ℕ, ◌<◌, ◌≤◌, length}
 use Rattle.riichi_hand.specs.Hand.{size}
 use Rattle.riichi_hand.specs.HandParts.{ShapeParts}
 use Rattle.riichi_tiles.specs.Melds.{tiles}
-use Rattle.riichi_chances.specs.Counted.{counted}
+use Rattle.riichi_chances.specs.Counted.{counted_draws}
 use Rattle.riichi_chances.specs.Draws.{all_draws, draws, unseen_of}
 
 -- thirteen tiles with their melds, and a count of each kind for what is seen
@@ -15,7 +15,7 @@ pub record IsThirteen (parts : ShapeParts) : Type 0 where
 
 -- the state is the hand and the turns that are left: the accepted kinds alone tell the draws
 abbrev pub CountedLaw : Type 0
-CountedLaw = (goal : ℕ) (parts : ShapeParts) (turns : ℕ) → IsThirteen parts → draws goal parts turns ≡ counted goal parts (unseen_of parts) turns
+CountedLaw = (goal : ℕ) (parts : ShapeParts) (turns : ℕ) → IsThirteen parts → draws goal parts turns ≡ counted_draws goal parts (unseen_of parts) turns
 
 -- they are no more than all draws, so that the two numbers are a chance
 abbrev pub ChanceLaw : Type 0

@@ -1,10 +1,8 @@
 //! The turns that are to come, and numbers of draws for them.
-ghost use Rattle.std.specs.Prelude.{ℕ, ◌≡◌, ◌+◌, ◌-◌, ◌*◌, ◌^◌, ◌<◌, ◌≤◌, max, slice_index};
-ghost use Rattle.riichi_chances.specs.Aims as spec;
-ghost use Rattle.riichi_chances.specs.Draws.{all_draws};
-ghost use Rattle.riichi_chances.specs.Numbers.{most_draws};
+ghost use Rattle.std.specs.Prelude.{◌≡◌, ◌≤◌, slice_index};
+ghost use Rattle.riichi_chances.specs.Numbers as spec;
 
-/// The most turns that are looked at: no player of four draws more of the tiles that are drawn in a deal.
+/// The most turns that are looked at. A player of four draws no more in a deal.
 pub const MOST_TURNS: u8 = 18;
 
 /// At each place the number of draws where so many turns are left.
@@ -29,7 +27,7 @@ impl Span {
     pub fn all_draws(self) -> ByTurns
         requires turns { self.turns ≤ 18 }
         requires unseen { self.unseen ≤ 136 }
-        ensures { (left : ℕ) → left ≤ self.turns → slice_index result left ≡ all_draws (spec.unseen_at self left) left }
+        ensures { spec.AreAllDraws self result }
     {
         let mut all = [1; 19];
         for left in 0..self.turns {
@@ -45,10 +43,9 @@ impl Span {
         requires turns { self.turns ≤ 18 }
         requires unseen { self.unseen ≤ 136 }
         requires live { live ≤ 136 }
-        requires few { (left : ℕ) → left < self.turns → slice_index gains.now left ≤ live * most_draws left }
+        requires few { spec.BeginWith self live gains.now }
         ensures none { slice_index result 0 ≡ 0 }
-        ensures more { (left : ℕ) → left < self.turns → slice_index result (left + 1)
-            ≡ (spec.unseen_at self (left + 1) - live) * slice_index result left + slice_index gains.now left }
+        ensures more { spec.Follow self live gains.now result }
     {
         let mut row = [0; 19];
         for left in 0..self.turns {
@@ -62,8 +59,8 @@ impl Span {
 /// Adds so many times each number.
 pub(crate) fn add_times(sums: &mut ByTurns, more: &ByTurns, times: u8, turns: u8)
     requires turns { turns ≤ 18 }
-    requires fits { (left : ℕ) → left < turns → slice_index sums.old left + times * slice_index more.now left < 2 ^ 128 }
-    ensures { (left : ℕ) → left < turns → slice_index sums.new left ≡ slice_index sums.old left + times * slice_index more.now left }
+    requires fits { spec.FitTogether turns times more.now sums.old }
+    ensures { spec.AreAdded turns times more.now sums.old sums.new }
 {
     for left in 0..turns {
         let place = left as usize;
@@ -73,7 +70,7 @@ pub(crate) fn add_times(sums: &mut ByTurns, more: &ByTurns, times: u8, turns: u8
 
 /// Keeps of each two numbers the greater.
 pub(crate) fn keep_greater(best: &mut ByTurns, other: &ByTurns)
-    ensures { (left : ℕ) → slice_index best.new left ≡ max (slice_index best.old left) (slice_index other.now left) }
+    ensures { spec.AreGreater other.now best.old best.new }
 {
     for place in 0..19usize {
         best[place] = best[place].max(other[place]);

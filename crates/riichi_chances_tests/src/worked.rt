@@ -42,7 +42,13 @@ fn part_of(all: u128, some: u128, among: u128) -> Option<u128> {
 }
 
 /// By the definition literally, over every draw and discard, in plain Rust.
-const FEW_TURNS: [Row; 8] = [
+const FEW_TURNS: [Row; 9] = [
+    Row {
+        hand: "123456789m13p11s",
+        discard: "",
+        goal: Goal::Win,
+        chances: &[(2, 964, 15006), (3, 172812, 1815726)],
+    },
     Row {
         hand: "123456789m1134p",
         discard: "",

@@ -1,6 +1,6 @@
 use Rattle.std.proofs.Common.{sym, ap, ◌∙◌, arith}
 use Rattle.riichi_chances.specs.Aims.{lack_of}
-use Rattle.riichi_chances.specs.Counted.{counted}
+use Rattle.riichi_chances.specs.Counted.{counted_draws}
 use Rattle.riichi_chances.specs.Draws.{all_draws, unseen_of}
 use Rattle.riichi_chances.proofs.ChanceLemmas.{chance_law}
 use Rattle.riichi_chances.proofs.CountedLemmas.{counted_law}
@@ -11,7 +11,7 @@ pub returns-clause-reached : goal.returns-clause-reached
 returns-clause-reached g c =
     let parts = c.args.asked.now in
     c.counts-numbers.ensures.value c.args.turns (omega arith)
-    ∙ ap (λ n. counted (lack_of c.args.goal) parts n c.args.turns) (all_turns c.unseen.result c.args.turns (unseen_of parts) c.unseen.ensures.value)
+    ∙ ap (λ n. counted_draws (lack_of c.args.goal) parts n c.args.turns) (all_turns c.unseen.result c.args.turns (unseen_of parts) c.unseen.ensures.value)
     ∙ sym (counted_law (lack_of c.args.goal) parts c.args.turns c.unseen.ensures.whole)
 
 pub returns-clause-all : goal.returns-clause-all

@@ -6,7 +6,8 @@ use Rattle.riichi_shape.specs.LiveCopies.{live_in}
 use Rattle.riichi_hand.specs.Hand.{copies_with}
 use Rattle.riichi_deeper.proofs.DeeperLemmas.{accepted_left}
 use Rattle.riichi_deeper.proofs.DrawnLemmas.{list_of_fourteen, list_of_thirteen, never_fourteen, never_thirteen, shanten_told}
-use Rattle.riichi_chances.specs.Aims.{lack_of, unseen_at, value_at}
+use Rattle.riichi_chances.specs.Numbers.{unseen_at}
+use Rattle.riichi_chances.specs.Aims.{lack_of, draws_at}
 use Rattle.riichi_chances.specs.Counted.{accepts}
 use Rattle.riichi_chances.proofs.CountingLemmas.{best_at, best_end, best_init, best_step, drawn_nearer, far_some, far_with, followed, gains_bound, gains_end, gains_fit, gains_init, gains_same, gains_step, later_counts, near_counted, near_with, never_past, no_draws, no_gains}
 use Rattle.riichi_chances.proofs.counting.+counting.Goals as goal
@@ -120,7 +121,7 @@ counts_with-returns-then-is_reached-clause-value g t c =
     let parts = c.args.drawn.now in
     let fits : FitsSigned width.w8 c.shape_with-answer.result.shanten = search rules in
     let near = sym (c.is_reached.ensures (distance_of parts.tiles parts.melds) (omega (arith, ints, shanten_told parts c.shape_with-answer.result c.shape_with-answer.ensures.shape))) ∙ c.if-is_reached.true in
-    λ left low. c.all_draws.ensures left low ∙ sym (near_with (lack_of c.args.aim.now.goal) (unseen_at c.args.aim.now.span left) left (value_at c.args.aim.now left) parts near)
+    λ left low. c.all_draws.ensures left low ∙ sym (near_with (lack_of c.args.aim.now.goal) (unseen_at c.args.aim.now.span left) left (draws_at c.args.aim.now left) parts near)
 
 pub counts_with-returns-then-is_reached-clause-stays : goal.counts_with-returns-then-is_reached-clause-stays
 counts_with-returns-then-is_reached-clause-stays g t c = c.shape_with-answer.ensures.stays
@@ -143,7 +144,7 @@ counts_with-returns-clause-value g t c =
     let parts = c.args.drawn.now in
     let fits : FitsSigned width.w8 c.shape_with-answer.result.shanten = search rules in
     let far = sym (c.is_reached.ensures (distance_of parts.tiles parts.melds) (omega (arith, ints, shanten_told parts c.shape_with-answer.result c.shape_with-answer.ensures.shape))) ∙ c.if-is_reached.false in
-    λ left low. c.best_rest.ensures.value left low ∙ sym (far_with (lack_of c.args.aim.now.goal) (unseen_at c.args.aim.now.span left) left (value_at c.args.aim.now left) parts far)
+    λ left low. c.best_rest.ensures.value left low ∙ sym (far_with (lack_of c.args.aim.now.goal) (unseen_at c.args.aim.now.span left) left (draws_at c.args.aim.now left) parts far)
 
 pub counts_with-returns-clause-stays : goal.counts_with-returns-clause-stays
 counts_with-returns-clause-stays g t c = c.best_rest.ensures.stays ∙ c.shape_with-answer.ensures.stays

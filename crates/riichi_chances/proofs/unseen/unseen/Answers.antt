@@ -1,4 +1,4 @@
-use Rattle.std.proofs.Common.{◌≡◌, ◌<◌, List, ℕ, length, sym, ap, ◌∙◌, arith}
+use Rattle.std.proofs.Common.{◌≡◌, List, ℕ, length, sym, ap, ◌∙◌, arith}
 use Rattle.std.specs.Prelude.{slice_index}
 use Rattle.riichi_chances.proofs.UnseenLemmas.{copies_of, copies_told, is_whole, unseen_end, unseen_init, unseen_step}
 use Rattle.riichi_chances.proofs.unseen.unseen.Goals as goal

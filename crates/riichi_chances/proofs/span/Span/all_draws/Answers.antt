@@ -1,7 +1,6 @@
-use Rattle.std.proofs.Common.{◌≡◌, ℕ, ◌+◌, ◌*◌, ◌<◌, ◌≤◌, List, [], ◌∷◌, get_or, length, length-set, refl, sym, ap, subst, ◌∙◌, arith}
-use Rattle.riichi_chances.specs.Aims.{unseen_at}
+use Rattle.std.proofs.Common.{◌≡◌, ℕ, ◌+◌, ◌*◌, ◌<◌, [], ◌∷◌, get_or, length-set, refl, sym, ap, subst, ◌∙◌, arith}
 use Rattle.riichi_chances.specs.Draws.{all_draws}
-use Rattle.riichi_chances.specs.Numbers.{most_draws}
+use Rattle.riichi_chances.specs.Numbers.{unseen_at}
 use Rattle.riichi_chances.proofs.BoundLemmas.{all_few}
 use Rattle.riichi_chances.proofs.SpanLemmas.{all_none, all_step, product_fits, put_each}
 use Rattle.riichi_chances.proofs.span.Span.all_draws.Goals as goal

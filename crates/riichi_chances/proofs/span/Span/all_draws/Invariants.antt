@@ -1,5 +1,5 @@
 use Rattle.std.proofs.Common.{◌≡◌, ℕ, ◌≤◌, get_or, length}
-use Rattle.riichi_chances.specs.Aims.{unseen_at}
+use Rattle.riichi_chances.specs.Numbers.{unseen_at}
 use Rattle.riichi_chances.specs.Draws.{all_draws}
 use Rattle.riichi_chances.proofs.span.Span.all_draws.Given as goal
 

@@ -1,6 +1,5 @@
-use Rattle.std.proofs.Common.{◌≡◌, ℕ, ◌+◌, ◌-◌, ◌*◌, ◌^◌, ◌<◌, ◌≤◌, get_or, length, length-set, sym, ap, ◌∙◌, arith}
-use Rattle.riichi_chances.specs.Aims.{unseen_at}
-use Rattle.riichi_chances.specs.Numbers.{most_draws}
+use Rattle.std.proofs.Common.{◌≡◌, ◌+◌, ◌-◌, ◌*◌, ◌<◌, ◌≤◌, get_or, length, length-set, ap, ◌∙◌, arith}
+use Rattle.riichi_chances.specs.Numbers.{most_draws, unseen_at}
 use Rattle.riichi_chances.proofs.SpanLemmas.{most_next, next_fits, put_each, put_more, put_other, row_few}
 use Rattle.riichi_chances.proofs.span.Span.follow.Goals as goal
 

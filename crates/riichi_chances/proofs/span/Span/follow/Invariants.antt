@@ -1,6 +1,5 @@
 use Rattle.std.proofs.Common.{◌≡◌, ℕ, ◌+◌, ◌-◌, ◌*◌, ◌<◌, ◌≤◌, get_or, length}
-use Rattle.riichi_chances.specs.Aims.{unseen_at}
-use Rattle.riichi_chances.specs.Numbers.{most_draws}
+use Rattle.riichi_chances.specs.Numbers.{most_draws, unseen_at}
 use Rattle.riichi_chances.proofs.span.Span.follow.Given as goal
 
 abbrev pub invariant-loop-left : goal.invariant-loop-left
