@@ -1,0 +1,272 @@
+-- The numbers of a hand by the numbers of those that it leads to.
+use Rattle.std.proofs.Common.{◌≡◌, ℕ, zero, suc, ◌+◌, ◌-◌, ◌*◌, ◌^◌, ◌<◌, ◌≤◌, Bool, true, false, cond, Contains, max, inl, inr, List, [], ◌∷◌, map, Some, None, length, refl, sym, ap, subst, ◌∙◌, arith}
+use Rattle.std.proofs.lemmas.Bool.{and_parts, leb-false, lt-ltb, ltb-true}
+use Rattle.std.specs.List.{filter}
+use Rattle.std.specs.Option.{option_map}
+use Rattle.std.specs.Prelude.{nat_le, nat_lt, replicate, slice_get, slice_index, sum_by}
+use Rattle.riichi_hand.specs.HandParts.{ShapeParts}
+use Rattle.riichi_tiles.specs.Melds.{every_kind}
+use Rattle.riichi_tiles.specs.declared.meld.Meld.{Meld}
+use Rattle.riichi_tiles.proofs.Members.{IsIn, Contains-in, in-filter, in-filter-inv, in-map, in-map-inv, in-range}
+use Rattle.riichi_shape.specs.Accepted.{accepted_of, is_accepted, live_of, with_one}
+use Rattle.riichi_shape.specs.Choosing.{LeavesLeast}
+use Rattle.riichi_shape.specs.Discards.{discard_of, discards_of, in_order, inserted, inserted_by, is_discard, live_with}
+use Rattle.riichi_shape.specs.EveryWinning.{distance_of}
+use Rattle.riichi_shape.specs.KeptDiscards.{short_of}
+use Rattle.riichi_shape.specs.LiveCopies.{live_in, pairs_of}
+use Rattle.riichi_shape.specs.declared.discard.Discard.{Discard}
+use Rattle.riichi_shape.specs.declared.discard.ShortDiscard.{ShortDiscard}
+use Rattle.riichi_shape.proofs.Choices.{discards_are}
+use Rattle.riichi_deeper.proofs.DeeperLemmas.{has_copies, pair_at, rest_all, rest_end, rest_none, rest_of, rest_some}
+use Rattle.riichi_deeper.specs.Drawn.{parts_with}
+use Rattle.riichi_chances.specs.Aims.{HasCounts, HasCountsWith, HasGains, lack_of, draws_at}
+use Rattle.riichi_chances.specs.Counted.{accepts, counted_draws, counted_by, counted_rest, counted_with, accepted_draws, parts_less}
+use Rattle.riichi_chances.specs.Draws.{all_draws, greatest, is_there}
+use Rattle.riichi_chances.specs.Numbers.{most_draws, unseen_at}
+use Rattle.riichi_chances.specs.declared.counting.Aim.{Aim}
+use Rattle.riichi_chances.specs.declared.goal.Goal.{Goal}
+use Rattle.riichi_chances.proofs.BoundLemmas.{accepted_few, all_few, counted_few, gains_few, times_few}
+use Rattle.riichi_chances.proofs.SpanLemmas.{all_none, next_fits, one_turn_more}
+
+-- ---- a hand that is there
+
+pub near_counted : (goal : ℕ) (parts : ShapeParts) (unseen left : ℕ) → is_there goal parts ≡ true → counted_draws goal parts unseen left ≡ all_draws unseen left
+unfolding counted_draws
+near_counted goal parts unseen zero near = ap (λ t. cond t 1 0) near ∙ sym (all_none unseen)
+near_counted goal parts unseen (suc left) near =
+    ap (λ t. cond t (all_draws unseen (suc left)) ((unseen - live_in (accepts parts)) * counted_draws goal parts (unseen - 1) left + accepted_draws goal (unseen - 1) left (λ rest. counted_draws goal rest (unseen - 1) left) parts)) near
+
+pub near_with : (goal unseen left : ℕ) (value : ShapeParts → ℕ) (drawn : ShapeParts) → is_there goal drawn ≡ true → counted_with goal unseen left value drawn ≡ all_draws unseen left
+unfolding counted_with
+near_with goal unseen left value drawn near = ap (λ t. cond t (all_draws unseen left) (counted_rest value drawn)) near
+
+-- ---- one that isn't
+
+pub far_with : (goal unseen left : ℕ) (value : ShapeParts → ℕ) (drawn : ShapeParts) → is_there goal drawn ≡ false → counted_with goal unseen left value drawn ≡ counted_rest value drawn
+unfolding counted_with
+far_with goal unseen left value drawn far = ap (λ t. cond t (all_draws unseen left) (counted_rest value drawn)) far
+
+far_none : (goal : ℕ) (parts : ShapeParts) (unseen : ℕ) → is_there goal parts ≡ false → counted_draws goal parts unseen 0 ≡ 0
+unfolding counted_draws
+far_none goal parts unseen far = ap (λ t. cond t 1 0) far
+
+far_more : (goal : ℕ) (parts : ShapeParts) (unseen left : ℕ) → is_there goal parts ≡ false → counted_draws goal parts unseen (suc left) ≡ (unseen - live_in (accepts parts)) * counted_draws goal parts (unseen - 1) left + accepted_draws goal (unseen - 1) left (λ rest. counted_draws goal rest (unseen - 1) left) parts
+unfolding counted_draws
+far_more goal parts unseen left far =
+    ap (λ t. cond t (all_draws unseen (suc left)) ((unseen - live_in (accepts parts)) * counted_draws goal parts (unseen - 1) left + accepted_draws goal (unseen - 1) left (λ rest. counted_draws goal rest (unseen - 1) left) parts)) far
+
+module _ (aim : Aim) (parts : ShapeParts) (far : is_there (lack_of aim.goal) parts ≡ false) (live : ℕ) (live_is : live ≡ live_in (accepts parts)) (sums row : List ℕ) (are_gains : HasGains aim parts sums) (none : slice_index row 0 ≡ 0)
+    (more : (left : ℕ) → left < aim.span.turns → slice_index row (left + 1) ≡ (unseen_at aim.span (left + 1) - live) * slice_index row left + slice_index sums left) where
+  step : (left : ℕ) → left < aim.span.turns → slice_index row left ≡ draws_at aim left parts → slice_index row (left + 1) ≡ counted_draws (lack_of aim.goal) parts (unseen_at aim.span (left + 1)) (suc left)
+  step left low so_far =
+      more left low ∙ ap (λ n. (unseen_at aim.span (left + 1) - n) * slice_index row left + slice_index sums left) live_is
+      ∙ ap (λ n. (unseen_at aim.span (left + 1) - live_in (accepts parts)) * n + slice_index sums left) so_far
+      ∙ ap (λ n. (unseen_at aim.span (left + 1) - live_in (accepts parts)) * draws_at aim left parts + n) (are_gains left low)
+      ∙ ap (λ n. (unseen_at aim.span (left + 1) - live_in (accepts parts)) * counted_draws (lack_of aim.goal) parts n left + accepted_draws (lack_of aim.goal) n left (λ rest. counted_draws (lack_of aim.goal) rest n left) parts) (sym (one_turn_more aim.span left low))
+      ∙ sym (far_more (lack_of aim.goal) parts (unseen_at aim.span (left + 1)) left far)
+
+  pub followed : HasCounts aim parts row
+  followed zero low = none ∙ sym (far_none (lack_of aim.goal) parts (unseen_at aim.span 0) far)
+  followed (suc left) low =
+      ap (slice_index row) (one left) ∙ step left (omega arith) (followed left (omega arith)) ∙ ap (λ n. counted_draws (lack_of aim.goal) parts (unseen_at aim.span n) (suc left)) (sym (one left))
+    where
+      one : (n : ℕ) → suc n ≡ n + 1
+      one n = omega arith
+
+-- so few draws begin with an accepted kind
+pub gains_bound : (aim : Aim) (parts : ShapeParts) (live : ℕ) → aim.span.unseen ≤ 136 → live_in (accepts parts) ≤ live → (left : ℕ) → accepted_draws (lack_of aim.goal) (unseen_at aim.span left) left (draws_at aim left) parts ≤ live * most_draws left
+gains_bound aim parts live few some left =
+    omega (arith, gains_few (lack_of aim.goal) (unseen_at aim.span left) left (most_draws left) (draws_at aim left) (all_few (unseen_at aim.span left) left (omega (arith, few))) (λ rest. counted_few (lack_of aim.goal) left (unseen_at aim.span left) rest (omega (arith, few))) parts, times_few (live_in (accepts parts)) live (most_draws left) (most_draws left) some (omega arith))
+
+-- ---- the discards of a list
+
+-- the greatest value of the discards from a place on
+unfoldable pub most_from : (ℕ → ℕ) → List Discard → ℕ → ℕ
+most_from value [] place = 0
+most_from value (discard ∷ rest) zero = max (value discard.kind) (most_from value rest zero)
+most_from value (discard ∷ rest) (suc place) = most_from value rest place
+
+pub most_at : (value : ℕ → ℕ) (discards : List Discard) (place : ℕ) (short : ShortDiscard) → Some short ≡ option_map short_of (slice_get discards place) → most_from value discards place ≡ max (value short.kind) (most_from value discards (place + 1))
+unfolding most_from
+most_at value [] place short e = absurd (cc)
+most_at value (discard ∷ rest) zero short e = let same : short ≡ short_of discard = cc in ap (λ (s : ShortDiscard). max (value s.kind) (most_from value rest zero)) (sym same)
+most_at value (discard ∷ rest) (suc place) short e = most_at value rest place short e ∙ ap (λ n. max (value short.kind) (most_from value (discard ∷ rest) n)) (one place)
+  where
+    one : (n : ℕ) → suc (n + 1) ≡ suc n + 1
+    one n = omega arith
+
+pub most_past : (value : ℕ → ℕ) (discards : List Discard) (place : ℕ) → length discards ≤ place → most_from value discards place ≡ 0
+unfolding most_from
+most_past value [] place past = refl
+most_past value (discard ∷ rest) zero past = absurd (omega arith)
+most_past value (discard ∷ rest) (suc place) past = most_past value rest place (omega arith)
+
+abbrev most_of : (ℕ → ℕ) → List Discard → ℕ
+most_of value discards = most_from value discards 0
+
+most_first : (value : ℕ → ℕ) (discard : Discard) (rest : List Discard) → most_of value (discard ∷ rest) ≡ max (value discard.kind) (most_of value rest)
+unfolding most_from
+most_first value discard rest = refl
+
+most_put : (value : ℕ → ℕ) (discard : Discard) (rest : List Discard) → most_of value (inserted discard rest) ≡ max (value discard.kind) (most_of value rest)
+unfolding inserted_by
+most_put value discard [] = most_first value discard []
+most_put value discard (next ∷ rest) = by_test (nat_le (live_with next) (live_with discard)) (most_put value discard rest)
+  where
+    swap : (a b c : ℕ) → max a (max b c) ≡ max b (max a c)
+    swap a b c = omega arith
+
+    by_test : (t : Bool) → most_of value (inserted discard rest) ≡ max (value discard.kind) (most_of value rest) → most_of value (cond t (discard ∷ next ∷ rest) (next ∷ inserted discard rest)) ≡ max (value discard.kind) (most_of value (next ∷ rest))
+    by_test true later = most_first value discard (next ∷ rest)
+    by_test false later =
+        most_first value next (inserted discard rest) ∙ ap (max (value next.kind)) later ∙ swap (value next.kind) (value discard.kind) (most_of value rest) ∙ ap (max (value discard.kind)) (sym (most_first value next rest))
+
+most_ordered : (value : ℕ → ℕ) (hand : List ℕ) (melds : List Meld) (seen kinds : List ℕ) → most_of value (in_order (map (discard_of hand melds seen) kinds)) ≡ greatest value kinds
+unfolding in_order greatest most_from
+most_ordered value hand melds seen [] = refl
+most_ordered value hand melds seen (kind ∷ kinds) =
+    most_put value (discard_of hand melds seen kind) (in_order (map (discard_of hand melds seen) kinds)) ∙ ap (max (value kind)) (most_ordered value hand melds seen kinds)
+
+pub most_all : (value : ShapeParts → ℕ) (drawn : ShapeParts) → most_from (λ kind. value (parts_less drawn kind)) (discards_of drawn.tiles drawn.melds drawn.seen) 0 ≡ counted_rest value drawn
+unfolding discards_of counted_rest
+most_all value drawn = most_ordered (λ kind. value (parts_less drawn kind)) drawn.tiles drawn.melds drawn.seen (filter (is_discard drawn.tiles drawn.melds) every_kind)
+
+-- a discard of the list is one of the best
+found_at : (discards : List Discard) (place : ℕ) (short : ShortDiscard) → Some short ≡ option_map short_of (slice_get discards place) → (discard : Discard) × IsIn discard discards × (discard.kind ≡ short.kind)
+found_at [] place short e = absurd (cc)
+found_at (discard ∷ rest) zero short e = let same : short ≡ short_of discard = cc in (discard, inl refl, ap (λ (s : ShortDiscard). s.kind) (sym same))
+found_at (discard ∷ rest) (suc place) short e = let found = found_at rest place short e in (found.0, inr found.1, found.2)
+
+pub best_at : (drawn : ShapeParts) (discards : List Discard) (place : ℕ) (short : ShortDiscard) → discards ≡ discards_of drawn.tiles drawn.melds drawn.seen → Some short ≡ option_map short_of (slice_get discards place) → LeavesLeast drawn.tiles drawn.melds short.kind
+best_at drawn discards place short is e =
+    let found = found_at discards place short e in
+    subst (LeavesLeast drawn.tiles drawn.melds) found.2 ((discards_are drawn.tiles drawn.melds drawn.seen found.0).0 (subst (λ (ds : List Discard). Contains ds found.0) is (Contains-in found.0 discards found.1))).0
+
+pub never_past : (discards : List Discard) (place : ℕ) → place < length discards → None ≡ option_map short_of (slice_get discards place) → ⊥
+never_past [] place low e = omega arith
+never_past (discard ∷ rest) zero low e = cc
+never_past (discard ∷ rest) (suc place) low e = never_past rest place (omega arith) e
+
+-- ---- numbers that are nought
+
+zero_at : (n k : ℕ) → slice_index (replicate n 0) k ≡ 0
+zero_at zero k = refl
+zero_at (suc n) zero = refl
+zero_at (suc n) (suc k) = zero_at n k
+
+abbrev pub no_draws : List ℕ
+no_draws = replicate 19 0
+
+-- ---- the best of the discards so far
+
+pub record BestSoFar (aim : Aim) (drawn : ShapeParts) (discards : List Discard) (best : List ℕ) (place : ℕ) : Type 0 where
+  pub at : (left : ℕ) → left ≤ aim.span.turns → max (slice_index best left) (most_from (λ kind. draws_at aim left (parts_less drawn kind)) discards place) ≡ counted_rest (draws_at aim left) drawn
+
+module _ (aim : Aim) (drawn : ShapeParts) (discards : List Discard) where
+  none_max : (a b : ℕ) → a ≡ 0 → max a b ≡ b
+  none_max a b e = omega arith
+
+  pub best_init : discards ≡ discards_of drawn.tiles drawn.melds drawn.seen → BestSoFar aim drawn discards no_draws 0
+  best_init is = record {
+    at = λ left low.
+        none_max (slice_index no_draws left) (most_from (λ kind. draws_at aim left (parts_less drawn kind)) discards 0) (zero_at 19 left)
+        ∙ ap (λ (ds : List Discard). most_from (λ kind. draws_at aim left (parts_less drawn kind)) ds 0) is ∙ most_all (draws_at aim left) drawn;
+  }
+
+  pub best_step : (best after : List ℕ) (place : ℕ) (short : ShortDiscard) (rest : ShapeParts) (numbers : List ℕ) → BestSoFar aim drawn discards best place → Some short ≡ option_map short_of (slice_get discards place) → rest ≡ parts_less drawn short.kind → HasCounts aim rest numbers →
+      ((left : ℕ) → slice_index after left ≡ max (slice_index best left) (slice_index numbers left)) → BestSoFar aim drawn discards after (place + 1)
+  best_step best after place short rest numbers so_far e rest_is are greater = record {
+    at = λ left low.
+        (let value : ℕ → ℕ = λ kind. draws_at aim left (parts_less drawn kind) in
+        let number = are left low ∙ ap (λ (parts : ShapeParts). draws_at aim left parts) rest_is in
+        sum_up (slice_index after left) (slice_index best left) (slice_index numbers left) (value short.kind) (most_from value discards place) (most_from value discards (place + 1)) (greater left) number (most_at value discards place short e) ∙ so_far.at left low);
+  }
+    where
+      sum_up : (a b n v m r : ℕ) → a ≡ max b n → n ≡ v → m ≡ max v r → max a r ≡ max b m
+      sum_up a b n v m r e f g = omega arith
+
+  pub best_end : (best : List ℕ) (place : ℕ) → BestSoFar aim drawn discards best place → length discards ≤ place → (left : ℕ) → left ≤ aim.span.turns → slice_index best left ≡ counted_rest (draws_at aim left) drawn
+  best_end best place so_far past left low = last (slice_index best left) (most_from (λ kind. draws_at aim left (parts_less drawn kind)) discards place) (most_past (λ kind. draws_at aim left (parts_less drawn kind)) discards place past) ∙ so_far.at left low
+    where
+      last : (a r : ℕ) → r ≡ 0 → a ≡ max a r
+      last a r e = omega arith
+
+-- ---- the sums over the accepted kinds so far
+
+abbrev pub gain_by : Aim → ShapeParts → ℕ → ℕ × ℕ → ℕ
+gain_by aim parts left = counted_by (lack_of aim.goal) (unseen_at aim.span left) left (draws_at aim left) parts
+
+abbrev pub gains_at : Aim → ShapeParts → ℕ → ℕ
+gains_at aim parts left = accepted_draws (lack_of aim.goal) (unseen_at aim.span left) left (draws_at aim left) parts
+
+pub record GainsSoFar (aim : Aim) (parts : ShapeParts) (copies sums : List ℕ) (number : ℕ) : Type 0 where
+  pub at : (left : ℕ) → left < aim.span.turns → slice_index sums left + rest_of (gain_by aim parts left) copies number ≡ gains_at aim parts left
+
+-- the numbers of fourteen tiles where fewer turns are left than at first
+pub record HasLaterCounts (aim : Aim) (drawn : ShapeParts) (numbers : List ℕ) : Type 0 where
+  pub at : (left : ℕ) → left < aim.span.turns → slice_index numbers left ≡ counted_with (lack_of aim.goal) (unseen_at aim.span left) left (draws_at aim left) drawn
+
+-- they are those of what is asked once a tile has been drawn
+pub later_counts : (aim later : Aim) (drawn : ShapeParts) (numbers : List ℕ) → later.goal ≡ aim.goal → later.span.turns + 1 ≡ aim.span.turns → later.span.unseen ≡ aim.span.unseen - 1 → HasCountsWith later drawn numbers → HasLaterCounts aim drawn numbers
+later_counts aim later drawn numbers goal_is turns unseen are = record {
+  at = λ left low.
+      are left (omega (arith, turns, low))
+      ∙ ap (λ n. counted_with (lack_of later.goal) n left (λ rest. counted_draws (lack_of later.goal) rest n left) drawn) (same_unseen left low)
+      ∙ ap (λ (g : Goal). counted_with (lack_of g) (unseen_at aim.span left) left (λ rest. counted_draws (lack_of g) rest (unseen_at aim.span left) left) drawn) goal_is;
+}
+  where
+    same_unseen : (left : ℕ) → left < aim.span.turns → unseen_at later.span left ≡ unseen_at aim.span left
+    same_unseen left low = omega (arith, turns, unseen, low)
+
+pub no_gains : (aim : Aim) (parts : ShapeParts) (sums : List ℕ) → aim.span.turns ≡ 0 → HasGains aim parts sums
+no_gains aim parts sums none left low = absurd (omega (arith, none, low))
+
+module _ (aim : Aim) (parts : ShapeParts) (copies : List ℕ) where
+  pub gains_init : (accepted : List (ℕ × ℕ)) → accepted ≡ pairs_of copies → accepted ≡ accepted_of parts.tiles parts.melds parts.seen → GainsSoFar aim parts copies no_draws 0
+  unfolding accepted_draws
+  gains_init accepted e f = record {
+    at = λ left low. omega (arith, zero_at 19 left, rest_all (gain_by aim parts left) copies, ap (sum_by (gain_by aim parts left)) (sym e ∙ f));
+  }
+
+  module _ (number : ℕ) (low : number < 34) where
+    -- a kind with live copies
+    module _ (some : 0 < slice_index copies number) (place : ℕ) (drawn : ShapeParts) (place_is : place ≡ number) (drawn_is : drawn ≡ parts_with parts place) (numbers : List ℕ) (are : HasLaterCounts aim drawn numbers) where
+      number_at : (left : ℕ) → left < aim.span.turns → slice_index copies number * slice_index numbers left ≡ gain_by aim parts left (number, slice_index copies number)
+      number_at left small =
+          ap (λ n. slice_index copies number * n) (are.at left small ∙ ap (counted_with (lack_of aim.goal) (unseen_at aim.span left) left (draws_at aim left)) (drawn_is ∙ ap (parts_with parts) place_is))
+
+      pub gains_step : (sums added after : List ℕ) → GainsSoFar aim parts copies sums number → ((left : ℕ) → left < aim.span.turns → slice_index added left ≡ slice_index sums left + slice_index copies number * slice_index numbers left) → after ≡ added → GainsSoFar aim parts copies after (number + 1)
+      gains_step sums added after so_far more after_is = record {
+        at = λ left small. omega (arith, so_far.at left small, more left small, ap (λ (ns : List ℕ). slice_index ns left) after_is, number_at left small, rest_some (gain_by aim parts left) copies number low some);
+      }
+
+      pub gains_fit : (sums : List ℕ) → GainsSoFar aim parts copies sums number → aim.span.turns ≤ 18 → aim.span.unseen ≤ 136 → (left : ℕ) → left < aim.span.turns → slice_index sums left + slice_index copies number * slice_index numbers left < 2 ^ 128
+      gains_fit sums so_far turns unseen left small =
+          next_fits left aim.span.turns (slice_index sums left + slice_index copies number * slice_index numbers left) small turns
+          (omega (arith, so_far.at left small, number_at left small, rest_some (gain_by aim parts left) copies number low some, gains_bound aim parts 136 unseen (accepted_few parts) left))
+
+    pub gains_same : (sums after : List ℕ) → GainsSoFar aim parts copies sums number → slice_index copies number ≤ 0 → after ≡ sums → GainsSoFar aim parts copies after (number + 1)
+    gains_same sums after so_far none after_is = record {
+      at = λ left small. omega (arith, so_far.at left small, ap (λ (ns : List ℕ). slice_index ns left) after_is, rest_none (gain_by aim parts left) copies number low none);
+    }
+
+  pub gains_end : (sums : List ℕ) (number : ℕ) → GainsSoFar aim parts copies sums number → number ≡ 34 → (left : ℕ) → left < aim.span.turns → slice_index sums left ≡ gains_at aim parts left
+  gains_end sums number so_far e left small = omega (arith, so_far.at left small, rest_end (gain_by aim parts left) copies number e)
+
+-- a kind of the list brings the hand nearer
+pub drawn_nearer : (parts : ShapeParts) (copies : List ℕ) (number place : ℕ) (drawn : ShapeParts) → pairs_of copies ≡ accepted_of parts.tiles parts.melds parts.seen → number < 34 → 0 < slice_index copies number → place ≡ number → drawn ≡ parts_with parts place → distance_of drawn.tiles drawn.melds < distance_of parts.tiles parts.melds
+unfolding pairs_of accepted_of
+drawn_nearer parts copies number place drawn same low some place_is drawn_is =
+    let live : ℕ → ℕ = live_of parts.tiles parts.melds parts.seen in
+    let there : IsIn (number, slice_index copies number) (accepted_of parts.tiles parts.melds parts.seen) =
+    subst (λ (pairs : List (ℕ × ℕ)). IsIn (number, slice_index copies number) pairs) same
+    (in-map (pair_at copies) number (filter (has_copies copies) every_kind) (in-filter (has_copies copies) number every_kind (in-range 34 0 number (omega arith) (omega (arith, low))) (lt-ltb 0 (slice_index copies number) some))) in
+    let made = in-map-inv (λ k. (k, live k)) (number, slice_index copies number) (filter (is_accepted parts.tiles parts.melds parts.seen) every_kind) there in
+    let kept = in-filter-inv (is_accepted parts.tiles parts.melds parts.seen) made.0 every_kind made.1 in
+    let same_kind : made.0 ≡ number = ap (λ (p : ℕ × ℕ). p.0) made.2 in
+    let tests = and_parts (nat_lt 0 (live made.0)) (nat_lt (distance_of (with_one parts.tiles made.0) parts.melds) (distance_of parts.tiles parts.melds)) kept.1 in
+    let nearer = ltb-true (distance_of (with_one parts.tiles made.0) parts.melds) (distance_of parts.tiles parts.melds) tests.1 in
+    omega (arith, nearer, ap (λ k. distance_of (with_one parts.tiles k) parts.melds) same_kind, ap (λ (p : ShapeParts). distance_of p.tiles p.melds) (drawn_is ∙ ap (parts_with parts) place_is))
+
+pub far_some : (goal : ℕ) (parts : ShapeParts) → is_there goal parts ≡ false → 0 < distance_of parts.tiles parts.melds
+far_some goal parts far = omega (arith, leb-false (distance_of parts.tiles parts.melds) goal far)

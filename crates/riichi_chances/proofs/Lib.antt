@@ -1,0 +1,10 @@
+pub mod BoundLemmas
+pub mod ChanceLemmas
+pub mod CountedLemmas
+pub mod CountingLemmas
+pub mod LiveDraws
+pub mod NearestLemmas
+pub mod SpanLemmas
+pub mod SumLemmas
+pub mod TileLemmas
+pub mod UnseenLemmas

@@ -1,0 +1,24 @@
+use Rattle.std.proofs.Common.{List, ℕ, ap, ◌∙◌, arith}
+use Rattle.std.specs.Prelude.{slice_index}
+use Rattle.riichi_hand.specs.Hand.{is_thirteen}
+use Rattle.riichi_hand.specs.HandParts.{ShapeParts}
+use Rattle.riichi_shape.specs.EveryWinning.{distance_of}
+use Rattle.riichi_chances.proofs.TileLemmas.{left_as_near, left_fine, left_thirteen}
+use Rattle.riichi_chances.proofs.tiles.without_tile.Goals as goal
+
+pub remove-requires : goal.remove-requires
+remove-requires c = omega (arith, c.requires.best.held, ap (λ (counts : List ℕ). slice_index counts c.args.kind) c.tiles-tiles.ensures.value)
+
+pub with_tiles-requires : goal.with_tiles-requires
+with_tiles-requires c =
+    left_fine c.args.drawn.now c.tiles-tiles.ensures.shape c.args.kind c.requires.best.is_kind c.tiles-tiles.result c.tiles-tiles.ensures.value c.remove.new.self c.remove.ensures.value c.remove.ensures.counts.each_kind c.requires.fourteen c.requires.best.held
+
+pub returns-clause-thirteen : goal.returns-clause-thirteen
+returns-clause-thirteen c =
+    ap (λ (parts : ShapeParts). is_thirteen parts.tiles parts.melds) c.with_tiles.ensures
+    ∙ left_thirteen c.args.drawn.now c.tiles-tiles.ensures.shape c.args.kind c.requires.best.is_kind c.tiles-tiles.result c.tiles-tiles.ensures.value c.remove.new.self c.remove.ensures.value c.remove.ensures.counts.each_kind c.requires.fourteen c.requires.best.held
+
+pub returns-clause-as_near : goal.returns-clause-as_near
+returns-clause-as_near c =
+    ap (λ (parts : ShapeParts). distance_of parts.tiles parts.melds) c.with_tiles.ensures
+    ∙ left_as_near c.args.drawn.now c.tiles-tiles.ensures.shape c.args.kind c.requires.best.is_kind c.tiles-tiles.result c.tiles-tiles.ensures.value c.remove.new.self c.remove.ensures.value c.remove.ensures.counts.each_kind c.requires.fourteen c.requires.best.held c.requires.best c.requires.far

@@ -1,0 +1,11 @@
+//! Tests of `riichi_chances`: worked hands, as fractions that plain Rust found over the definition.
+//!
+//! They stand apart from the library, since a check of a crate with its tests proves the crate once more.
+#![tactic(auto)]
+
+#[cfg(test)]
+mod facts;
+#[cfg(test)]
+mod hands;
+#[cfg(test)]
+mod worked;
