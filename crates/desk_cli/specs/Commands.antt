@@ -35,5 +35,5 @@ abbrev pub is_job : List ℕ → Bool
 is_job word = list_any (λ command. bytes_eq (command_word command) word) (commands.Win ∷ commands.Waits ∷ commands.Shape ∷ [])
 
 -- a question begins with this word
-abbrev pub is_question : List ℕ → Bool
-is_question word = bytes_eq word (codes "shape") || bytes_eq word (codes "calls")
+abbrev pub is_study_job : List ℕ → Bool
+is_study_job word = bytes_eq word (codes "shape") || bytes_eq word (codes "calls")

@@ -11,7 +11,7 @@ use Rattle.clap.specs.Walk.{rows_of}
 use Rattle.clap.specs.declared.parser.matches.ArgMatches.{ArgMatches}
 use Rattle.clap.specs.declared.parser.matches.Found.{Found}
 use Rattle.riichi_hand.specs.RulesText.{NamesRules, IsWrongAt}
-use Rattle.desk_cli.specs.Commands.{command_named, is_job, is_question}
+use Rattle.desk_cli.specs.Commands.{command_named, is_job, is_study_job}
 use Rattle.desk_cli.specs.declared.command.CommandName.{CommandName}
 use Rattle.desk_cli.specs.declared.command.CommandName.TheVariants as commands
 use Rattle.desk_cli.specs.declared.request.Form.{Form}
@@ -104,7 +104,7 @@ AreExplained found other = ⊥
 
 -- the words are one question where the first begins one
 abbrev pub are_one_question : List (List ℕ) → Bool
-are_one_question words = option_map_or is_question (slice_get words 0) false
+are_one_question words = option_map_or is_study_job (slice_get words 0) false
 
 -- questions from the same places
 abbrev pub AreStudied : Found → Lines → Type 0

@@ -88,8 +88,8 @@ pub(crate) fn is_job(word: &str) -> bool
 }
 
 /// Whether a question may begin with this word.
-pub(crate) fn is_question(word: &str) -> bool
-    ensures { result ≡ spec.is_question word.now }
+pub(crate) fn is_study_job(word: &str) -> bool
+    ensures { result ≡ spec.is_study_job word.now }
 {
     word == "shape" || word == "calls"
 }

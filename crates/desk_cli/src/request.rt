@@ -5,7 +5,7 @@ ghost use Rattle.riichi_hand.specs.RulesText.{NamesRules};
 ghost use Rattle.desk_cli.specs.declared.command.CommandName.{CommandName};
 ghost use Rattle.desk_cli.specs.Requests as spec;
 
-use crate::command::{CommandName, is_job, is_question};
+use crate::command::{CommandName, is_job, is_study_job};
 use clap::ArgMatches;
 use riichi_hand::{Rules, read_rules};
 
@@ -592,7 +592,7 @@ fn are_one_question(words: &[&str]) -> bool
     ensures { result ≡ spec.are_one_question (spec.texts words.now) }
 {
     match words.first() {
-        Some(word) => is_question(word),
+        Some(word) => is_study_job(word),
         None => false,
     }
 }

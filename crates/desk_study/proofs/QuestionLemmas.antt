@@ -21,7 +21,7 @@ use Rattle.desk_lines.specs.declared.line_kind.LineKind.TheVariants.{NoRecord, R
 use Rattle.desk_lines.specs.declared.report.DeskReport.{DeskReport}
 use Rattle.desk_lines.proofs.AnswerLemmas.{same_as_told}
 use Rattle.desk_lines.proofs.TellingLemmas.{report_of_more}
-use Rattle.desk_study.specs.Answers.{front_text, question_answer, question_answers, question_kind, question_kinds, studied, studied_kind, told_number}
+use Rattle.desk_study.specs.Answers.{line_front, question_answer, question_answers, question_kind, question_kinds, studied, studied_kind, number_asked}
 use Rattle.desk_study.specs.Tellers.{HasAnswered}
 use Rattle.desk_study.specs.declared.questions.Questions.{Questions}
 
@@ -38,10 +38,10 @@ no_rules t = elim t as (λ v. (v && false) ≡ false) [ Rattle.std.proofs.Common
 names_none : (number : ℕ) (line : List ℕ) → 4096 < length line → ((number == 1) && is_some (profile_of line)) ≡ false
 names_none number line long = ap (λ (p : Option Rules). (number == 1) && is_some p) (long_profile line long) ∙ no_rules (number == 1)
 
-long_answer : (is_numbered : Bool) (number : ℕ) (line : List ℕ) → 4096 < length line → question_answer is_numbered number line ≡ studied (front_text (told_number is_numbered number)) (Err (Line H1))
+long_answer : (is_numbered : Bool) (number : ℕ) (line : List ℕ) → 4096 < length line → question_answer is_numbered number line ≡ studied (line_front (number_asked is_numbered number)) (Err (Line H1))
 unfolding question_answer
 long_answer is_numbered number line long =
-    let front = front_text (told_number is_numbered number) in
+    let front = line_front (number_asked is_numbered number) in
     ap (λ t. if t then None else studied front (study_of line)) (names_none number line long) ∙ ap (studied front) (long_study line long)
 
 long_kind : (number : ℕ) (line : List ℕ) → 4096 < length line → question_kind number line ≡ Refused

@@ -25,7 +25,7 @@ use Rattle.riichi_shape.specs.EveryWinning.{shanten_of}
 use Rattle.riichi_deeper.specs.Deeper.{deeper_of}
 use Rattle.desk_lines.specs.Telling.{text_of, with_line_feed}
 use Rattle.desk_lines.proofs.TellingLemmas.{text_of_append}
-use Rattle.desk_study.specs.Answers.{found_line, front_text, kept_line, names_rules, question_answer, studied, study_text, told_number}
+use Rattle.desk_study.specs.Answers.{found_line, line_front, kept_line, names_rules, question_answer, studied, study_text, number_asked}
 use Rattle.desk_study.proofs.PutLemmas.{ended_lines_of, first_and_below, found_lines, kept_lines}
 
 module _ (parts : ShapeParts) (shape : IsShape parts) where
@@ -66,16 +66,16 @@ pub study_ended : (front : List ℕ) (study : Study) → study_text front study 
 study_ended front (asks.Shape parts order) = ended_lines_of front (shape_text (shape_answer_of parts)) (beyond_lines parts order)
 study_ended front (asks.Calls parts) = ended_lines_of front (calls_line (calls_of parts.hand parts.thrown)) (call_lines parts)
 
-answer_of_study : (is_numbered : Bool) (number : ℕ) (line : List ℕ) (study : Study) → names_rules number line ≡ false → study_of line ≡ Ok (Some study) → question_answer is_numbered number line ≡ Some (study_text (front_text (told_number is_numbered number)) study)
+answer_of_study : (is_numbered : Bool) (number : ℕ) (line : List ℕ) (study : Study) → names_rules number line ≡ false → study_of line ≡ Ok (Some study) → question_answer is_numbered number line ≡ Some (study_text (line_front (number_asked is_numbered number)) study)
 unfolding question_answer
 answer_of_study is_numbered number line study unnamed is =
-    let front = front_text (told_number is_numbered number) in
+    let front = line_front (number_asked is_numbered number) in
     ap (λ t. if t then None else studied front (study_of line)) unnamed ∙ ap (studied front) is
 
-pub study_put : (is_numbered : Bool) (number : ℕ) (line : List ℕ) (study : Study) (front : Option ℕ) (before after : List ℕ) → names_rules number line ≡ false → study_of line ≡ Ok (Some study) → front ≡ told_number is_numbered number
-    → after ≡ before ++ (front_text front ++ text_of (study_lines study)) → after ≡ before ++ with_line_feed (question_answer is_numbered number line)
+pub study_put : (is_numbered : Bool) (number : ℕ) (line : List ℕ) (study : Study) (front : Option ℕ) (before after : List ℕ) → names_rules number line ≡ false → study_of line ≡ Ok (Some study) → front ≡ number_asked is_numbered number
+    → after ≡ before ++ (line_front front ++ text_of (study_lines study)) → after ≡ before ++ with_line_feed (question_answer is_numbered number line)
 study_put is_numbered number line study front before after unnamed is front_is told =
-    told ∙ ap (λ (t : List ℕ). before ++ t) (sym (study_ended (front_text front) study)) ∙ ap (λ (f : Option ℕ). before ++ (study_text (front_text f) study ++ 10 ∷ [])) front_is
+    told ∙ ap (λ (t : List ℕ). before ++ t) (sym (study_ended (line_front front) study)) ∙ ap (λ (f : Option ℕ). before ++ (study_text (line_front f) study ++ 10 ∷ [])) front_is
     ∙ sym (ap (λ (a : Option (List ℕ)). before ++ with_line_feed a) (answer_of_study is_numbered number line study unnamed is))
 
 -- the lines of calls and of a kong, one behind the other

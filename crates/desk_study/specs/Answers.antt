@@ -17,14 +17,14 @@ use Rattle.desk_lines.specs.declared.outbox.Outbox.{Outbox}
 -- ---- the text of one answer
 
 -- the number of a line, where answers are numbered
-abbrev pub told_number : Bool → ℕ → Option ℕ
-told_number false number = None
-told_number true number = Some number
+abbrev pub number_asked : Bool → ℕ → Option ℕ
+number_asked false number = None
+number_asked true number = Some number
 
 -- the number and a colon
-abbrev pub front_text : Option ℕ → List ℕ
-front_text None = []
-front_text (Some number) = decimal number ++ codes ":"
+abbrev pub line_front : Option ℕ → List ℕ
+line_front None = []
+line_front (Some number) = decimal number ++ codes ":"
 
 -- the lines of an answer, the first behind the number
 abbrev pub study_text : List ℕ → Study → List ℕ
@@ -48,7 +48,7 @@ names_rules number line = (number == 1) && is_some (profile_of line)
 -- the answer to the line of a number
 unfoldable pub question_answer : Bool → ℕ → List ℕ → Option (List ℕ)
 question_answer is_numbered number line =
-    if names_rules number line then None else studied (front_text (told_number is_numbered number)) (study_of line)
+    if names_rules number line then None else studied (line_front (number_asked is_numbered number)) (study_of line)
 
 unfoldable pub question_kind : ℕ → List ℕ → LineKind
 question_kind number line = if names_rules number line then NoRecord else studied_kind (study_of line)

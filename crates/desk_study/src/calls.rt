@@ -28,7 +28,7 @@ pub(crate) fn put_calls<S: RowSource>(
 )
     requires { HasRoomForLine outbox.old }
     ensures { outbox.new.bytes.items ≡ outbox.old.bytes.items
-        ++ (spec.front_text front ++ text_of (lines.study_lines (asks.Calls asked.now))) }
+        ++ (spec.line_front front ++ text_of (lines.study_lines (asks.Calls asked.now))) }
 {
     let hand = asked.hand();
     let thrown = asked.thrown();

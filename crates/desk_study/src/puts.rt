@@ -14,7 +14,7 @@ pub(crate) const MOST_FRONT: usize = MOST_U64 + ":".len();
 
 /// Begins the text of an answer by the number of its line, where that is told.
 pub(crate) fn begin(front: Option<u64>, text: &mut AnswerText)
-    ensures bytes { text.new.bytes ≡ spec.front_text front }
+    ensures bytes { text.new.bytes ≡ spec.line_front front }
     ensures len { array_string_len text.new ≤ MOST_FRONT }
 {
     text.clear();
@@ -28,7 +28,7 @@ pub(crate) fn begin(front: Option<u64>, text: &mut AnswerText)
 pub(crate) fn put_fault(front: Option<u64>, fault: &LineFault, outbox: &mut Outbox)
     requires { HasRoomForText outbox.old }
     ensures { outbox.new.bytes.items
-        ≡ outbox.old.bytes.items ++ ((spec.front_text front ++ fault_text fault.now) ++ 10 ∷ []) }
+        ≡ outbox.old.bytes.items ++ ((spec.line_front front ++ fault_text fault.now) ++ 10 ∷ []) }
 {
     begin(front, &mut outbox.text);
     outbox.text.push_str(fault_text(fault).as_str());

@@ -69,7 +69,7 @@ fn names_rules(number: u64, line: &[u8]) -> bool
 
 /// The number of a line, where answers are numbered.
 fn number_if(is_numbered: bool, number: u64) -> Option<u64>
-    ensures { result ≡ spec.told_number is_numbered number }
+    ensures { result ≡ spec.number_asked is_numbered number }
 {
     if is_numbered { Some(number) } else { None }
 }
@@ -78,7 +78,7 @@ fn number_if(is_numbered: bool, number: u64) -> Option<u64>
 fn put_study<S: RowSource>(front: Option<u64>, study: &Study, outbox: &mut Outbox, source: &mut S)
     requires { HasRoomForLine outbox.old }
     ensures { outbox.new.bytes.items ≡ outbox.old.bytes.items
-        ++ (spec.front_text front ++ text_of (lines.study_lines study.now)) }
+        ++ (spec.line_front front ++ text_of (lines.study_lines study.now)) }
 {
     match study {
         Study::Shape(hand, order) => put_shape(front, hand, *order, outbox, source),

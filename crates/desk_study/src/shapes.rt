@@ -35,7 +35,7 @@ pub(crate) fn put_shape<S: RowSource>(
 )
     requires { HasRoomForLine outbox.old }
     ensures { outbox.new.bytes.items ≡ outbox.old.bytes.items
-        ++ (spec.front_text front ++ text_of (lines.study_lines (asks.Shape hand.now order))) }
+        ++ (spec.line_front front ++ text_of (lines.study_lines (asks.Shape hand.now order))) }
 {
     let answer = shape_with(source, hand);
     begin(front, &mut outbox.text);

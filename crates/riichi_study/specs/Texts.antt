@@ -30,8 +30,8 @@ abbrev pub figures_text : ℕ → Outlook → List ℕ
 figures_text live outlook =
     codes "live " ++ decimal live ++ codes " second " ++ decimal outlook.second ++ codes " good " ++ decimal outlook.good
 
-abbrev pub hand_line : ℕ → Outlook → List ℕ
-hand_line live outlook = codes "  " ++ figures_text live outlook
+abbrev pub hand_outlook_line : ℕ → Outlook → List ℕ
+hand_outlook_line live outlook = codes "  " ++ figures_text live outlook
 
 abbrev pub discard_line : ℕ → ℕ → Outlook → List ℕ
 discard_line kind live outlook = codes "  discard " ++ kind_text kind ++ codes " " ++ figures_text live outlook
@@ -43,7 +43,7 @@ prospect_line prospect = option_map (discard_line prospect.discard.kind (live_wi
 -- what stands beyond a hand of thirteen tiles
 abbrev pub hand_lines : ShapeParts → Option Outlook → List (List ℕ)
 hand_lines parts None = []
-hand_lines parts (Some outlook) = hand_line (live_in (accepted_of parts.tiles parts.melds parts.seen)) outlook ∷ []
+hand_lines parts (Some outlook) = hand_outlook_line (live_in (accepted_of parts.tiles parts.melds parts.seen)) outlook ∷ []
 
 -- what stands beyond each best discard of fourteen
 abbrev pub prospect_lines : ShapeParts → Order → List (List ℕ)

@@ -48,7 +48,7 @@ fn push_figures(text: &mut AnswerText, live: u32, outlook: &Outlook)
 /// Writes the line below a hand of thirteen tiles that isn't ready.
 pub fn push_hand_outlook(text: &mut AnswerText, live: u32, outlook: &Outlook)
     requires { array_string_len text.old + MOST_OUTLOOK ≤ ANSWER_ROOM }
-    ensures bytes { text.new.bytes ≡ text.old.bytes ++ spec.hand_line live outlook.now }
+    ensures bytes { text.new.bytes ≡ text.old.bytes ++ spec.hand_outlook_line live outlook.now }
     ensures len { array_string_len text.new ≤ array_string_len text.old + MOST_OUTLOOK }
 {
     text.push_str("  ");

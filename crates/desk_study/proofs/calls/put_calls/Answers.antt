@@ -9,7 +9,7 @@ use Rattle.riichi_deeper.specs.Calls.{calls_of, kong_of}
 use Rattle.riichi_deeper.specs.declared.thrown.Thrown.{Thrown}
 use Rattle.riichi_deeper.proofs.DrawnLemmas.{shanten_told}
 use Rattle.riichi_study.specs.Texts.{calls_line}
-use Rattle.desk_study.specs.Answers.{front_text}
+use Rattle.desk_study.specs.Answers.{line_front}
 use Rattle.desk_study.proofs.ShapeLemmas.{calls_put}
 use Rattle.desk_study.proofs.calls.put_calls.Goals as goal
 
@@ -27,7 +27,7 @@ returns g c =
     let hand_is = c.hand-hand.ensures.value in
     let thrown_is = c.thrown-thrown.ensures in
     let fits : FitsSigned width.w8 c.shape_with.result.shanten = search rules in
-    calls_put parts (to_z w8 (of_z w8 c.shape_with.result.shanten)) c.calls-found.result thrown.tile c.kong.result c.args.outbox.now.bytes.items (front_text c.args.front) c.push_calls.new.text.bytes c.put_text.new.self.bytes.items c.put_found.new.outbox.bytes.items c.put_kong.new.outbox.bytes.items
+    calls_put parts (to_z w8 (of_z w8 c.shape_with.result.shanten)) c.calls-found.result thrown.tile c.kong.result c.args.outbox.now.bytes.items (line_front c.args.front) c.push_calls.new.text.bytes c.put_text.new.self.bytes.items c.put_found.new.outbox.bytes.items c.put_kong.new.outbox.bytes.items
     (c.push_calls.ensures ∙ ap (λ (t : List ℕ). t ++ calls_line c.calls-found.result) c.begin.ensures.bytes) c.put_text.ensures.told c.put_found.ensures.put c.put_kong.ensures
     (omega (arith, ints, shanten_told hand c.shape_with.result c.shape_with.ensures.shape, ap (λ (h : ShapeParts). distance_of h.tiles h.melds) hand_is))
     (c.calls-found.ensures.value ∙ ap (λ (h : ShapeParts). calls_of h thrown) hand_is ∙ ap (λ (t : Thrown). calls_of parts.hand t) thrown_is)
