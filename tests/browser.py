@@ -12,6 +12,10 @@ import tempfile
 from pathlib import Path
 
 
+# A page is moved so often at most until an element is seen.
+MOST_SWIPES = 4
+
+
 class Browser:
     """A browser with one page. Its methods wait for what they ask."""
 
@@ -153,9 +157,11 @@ class Browser:
         """A tap by touch events alone, where the element is seen; whether the page had to be moved by a swipe for it."""
         found = self.place(selector)
         is_moved = found is None
-        if is_moved:
+        for _ in range(MOST_SWIPES if is_moved else 0):
             self.swipe_to(selector)
             found = self.place(selector)
+            if found is not None:
+                break
         x, y = found
         self.ask("Input.dispatchTouchEvent", type="touchStart", touchPoints=[{"x": x, "y": y}])
         self.ask("Input.dispatchTouchEvent", type="touchEnd", touchPoints=[])
@@ -163,13 +169,17 @@ class Browser:
         return is_moved
 
     def swipe_to(self, selector: str) -> None:
-        """Moves the page by a finger until the element is about the middle of what is seen."""
+        """Moves the page by a finger, which stays on the screen and rests before it is lifted, until the element is about the middle of what is
+        seen."""
         box = f"document.querySelector({json.dumps(selector)}).getBoundingClientRect()"
-        away = self.run(f"{box}.y + {box}.height / 2 - innerHeight / 2")
-        start = 300 + away / 2
+        away, height = self.run(f"[{box}.y + {box}.height / 2 - innerHeight / 2, innerHeight]")
+        away = max(20 - height, min(height - 20, away))
+        start = (height + away) / 2
         self.ask("Input.dispatchTouchEvent", type="touchStart", touchPoints=[{"x": 20, "y": start}])
         for step in range(1, 11):
             self.ask("Input.dispatchTouchEvent", type="touchMove", touchPoints=[{"x": 20, "y": start - away * step / 10}])
+        self.run("new Promise(done => setTimeout(done, 150))")
+        self.ask("Input.dispatchTouchEvent", type="touchMove", touchPoints=[{"x": 20, "y": start - away}])
         self.ask("Input.dispatchTouchEvent", type="touchEnd", touchPoints=[])
         self.run("new Promise(done => setTimeout(done, 400))")
 
