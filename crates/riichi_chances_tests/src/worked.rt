@@ -142,7 +142,7 @@ const MANY_TURNS: [Row; 6] = [
     },
 ];
 
-/// The same, of hands that lack three or four tiles.
+/// The same, of hands that lack three tiles.
 const FAR: [Row; 4] = [
     Row {
         hand: "123m4467p23557s1z",
