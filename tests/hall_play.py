@@ -144,9 +144,9 @@ class Pace:
 
     deals: int
     seconds: float = 0.0
-    late: float = 0.0
     moving: int = 6
     mischief: float = 1 / 3
+    late: float = 0.0
 
 
 async def play(seats: tuple[Seat, Seat], session: int, pace: Pace) -> None:
