@@ -1,7 +1,7 @@
 // The form: the hand that is made, and what the person does to it.
 
 import { answerTo, lacks } from "./answers.js";
-import { lackOfTiles, spaceInHand } from "./asked.js";
+import { lackOfTiles } from "./asked.js";
 import { showThrowers, throwTile } from "./calls.js";
 import { byId, label, make } from "./elements.js";
 import { moveTile, placeOfKind } from "./motion.js";
@@ -79,8 +79,7 @@ function takeOut(list, record) {
 // Whether no tile is wanted any more.
 function isFull() {
   const { record, target } = state;
-  const isWhole = record.job === "win" ? record.on.length > 0 : spaceInHand(record) === 0;
-  return target === "hand" && isWhole && lackOfTiles(record) === 0;
+  return record.job === "win" && target === "hand" && record.on.length > 0 && lackOfTiles(record) === 0;
 }
 
 // Where the tiles make place for the answer, the focus goes to it.
