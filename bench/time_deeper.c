@@ -1,6 +1,6 @@
 /* time_deeper [DEALS]: what second and good of all best discards of fourteen tiles cost beside the shape of these tiles, and what the
  * calls of one thrown tile do, by shanten: of hands dealt from a fixed seed, many a call and a call each. Processor time, the least of
- * RUNS. bench/README.md says how it is built and what it told. */
+ * RUNS. The script time_deeper builds it; README.md has what it told. */
 #include <riichi_desk.h>
 #include <stdio.h>
 #include <stdlib.h>
