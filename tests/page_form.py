@@ -178,6 +178,14 @@ FURTHER = """[...document.querySelectorAll('#answer .further tbody tr')].map((ro
   [...row.querySelectorAll('td')].map((it) => it.textContent + (it.className === 'most' ? '*' : '')).join(' '))"""
 
 
+# A browser tells a part that is open some moments after the tap that opens it.
+OPENED = """new Promise((done) => {
+  const part = document.querySelector('#answer details');
+  if (part.childElementCount > 1) done();
+  part.addEventListener('toggle', () => done(), { once: true });
+})"""
+
+
 def test_further_steps(browser: Browser) -> None:
     fresh(browser)
     type_line(browser, "shape 123456789m1134p")
@@ -185,6 +193,7 @@ def test_further_steps(browser: Browser) -> None:
     type_line(browser, "shape 234m45678p34s558s")
     told("closed at first", [], browser.run(FURTHER))
     browser.tap("#answer summary")
+    browser.run(OPENED)
     told("of thirteen tiles", ["20 20 165"], browser.run(FURTHER))
     type_line(browser, "shape 45678m345p2467s88s")
     told("open for the next hand", True, len(browser.run(FURTHER)) > 1)
