@@ -11,7 +11,7 @@ from .bounds import Bounds, Pace
 from .events import Streams, written
 from .program import Program
 from .refusals import Refused
-from .state import State
+from .state import Key, State
 from .store import Store
 from .writer import Act, News, Writer
 
@@ -47,6 +47,8 @@ class Hall:
         self._ranked_state: State | None = None
         self._ranked_at = 0.0
         self._telling: asyncio.Task[None] | None = None
+        self._showing: asyncio.Task[None] | None = None
+        self._unshown: set[int] = set()
 
     def open(self) -> None:
         """Begins to take requests."""
@@ -56,8 +58,9 @@ class Hall:
     def close(self) -> None:
         """Ends all streams, and the thread behind what waits for it."""
         self.streams.end()
-        if self._telling is not None:
-            self._telling.cancel()
+        for task in (self._telling, self._showing):
+            if task is not None:
+                task.cancel()
         self._writer.stop()
 
     @property
@@ -74,17 +77,28 @@ class Hall:
         return await self._writer.done(act)
 
     def _seen(self, state: State, news: News) -> None:
-        """Tells the phones at once what changed at their table, and notes it for the director and the wall."""
+        """Tells the phones at once what changed at their table, and notes it for the director and the wall. Where sessions changed each
+        table is shown its game, with all that changed there until then."""
         shown = state.shown_session()
         for key, changed in news.deals.items():
             self._changed.add(key.table)
-            if key.session == shown and not news.with_sessions:
+            if key.session == shown and not news.with_sessions and key.table not in self._unshown:
                 event = {**views.head(state, state.books[key]), "deals": [changed[number] for number in sorted(changed)]}
                 self.streams.tell(topic(key.table), written("changed", event))
         if news.with_sessions:
             self._with_sessions = True
-            for book in state.books_of(shown) if shown is not None else []:
-                self.streams.tell(topic(book.key.table), written("view", views.game(state, book.key)))
+            self._unshown.update(self.fixed.tables)
+            if self._showing is None or self._showing.done():
+                self._showing = asyncio.create_task(self._show())
+
+    async def _show(self) -> None:
+        """Shows the phones of table after table the game there. What others ask meanwhile is answered between two of them."""
+        while self._unshown:
+            table, state = self._unshown.pop(), self.state
+            shown = state.shown_session()
+            if shown is not None and Key(shown, table) in state.books:
+                self.streams.tell(topic(table), written("view", views.game(state, Key(shown, table))))
+            await asyncio.sleep(0)
 
     async def _tell(self) -> None:
         """Tells the director and the wall, some moments after a change, what changed, and the standings."""
