@@ -48,6 +48,8 @@ def test_list(browser: Browser) -> None:
     browser.run("document.getElementById('sheet-name').focus()")
     browser.type("Table 3, East 2")
     browser.key("Escape")
+    # (a sheet tells some moments later that it is closed)
+    browser.run("new Promise(done => setTimeout(done, 300))")
     name = "#hand-list > li:last-child .hand-name"
     told("a name in the list", "Table 3, East 2", text(browser, name))
     browser.reload()
