@@ -59,6 +59,7 @@ rows
 need nothing
 seats nothing
 standings nothing
+study nothing
 replay nothing
 help-codes
 help-rules

@@ -39,6 +39,11 @@ if python3 -c 'import jsonschema' 2> /dev/null; then
     "$(for text in "${texts[@]}"; do "$program" line --json < "$text"; done | python3 -B tests/valid_answers.py docs/answer.schema.json)"
   told 'explain --json under the rules of a house, by the JSON Schema' "$("$program" line < examples/rules.lines | wc -l) valid" \
     "$("$program" explain --json --rules 1+red-fives-ippatsu-ura < examples/rules.lines | python3 -B tests/valid_answers.py docs/answer.schema.json)"
+  # (each shape of the lines is a question too; the calls are those of tests/study.sh)
+  { grep '^shape ' "$made/lines" | head -n 300; printf 'calls 234m45678p34s558s tile=%s from=left\n' 3p 6p 9p 4p 2s 5s 33p; echo 'calls 123456m12p34s111z tile=1z from=across'; echo 'shape 12x3m'; } > "$made/questions"
+  for form in '' --number; do
+    told "study --json $form, by the JSON Schema" "$("$program" study < "$made/questions" | wc -l) valid" "$("$program" study --json $form < "$made/questions" | python3 -B tests/valid_answers.py docs/study.schema.json)"
+  done
 else
   skip 'answers by their JSON Schema' python3-jsonschema
 fi
@@ -75,6 +80,9 @@ if command -v cargo > /dev/null; then
   "$made/bench/release/bench" games 2000 17 > "$made/games.text"
   told 'two thousand random texts of games, by plain Rust' "$("$made/bench/release/bench" ledger < "$made/games.text" | sha256sum)" \
     "$("$program" game < "$made/games.text" | sha256sum)"
+  "$made/bench/release/bench" safes 1000 5 > "$made/safe.lines"
+  told 'furiten and safe tiles of a thousand random hands, by plain Rust' "$("$made/bench/release/bench" safe < "$made/safe.lines" | sha256sum)" \
+    "$("$program" study < "$made/safe.lines" | sha256sum)"
   # random tournaments, by what parts equal totals: of a hundred players and eight sessions, a file each; and of twenty players with
   # a file for each table, in any order and by any number of workers
   mkdir -p "$made/tournament" "$made/tables"

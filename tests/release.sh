@@ -6,7 +6,7 @@ mkdir -p "$shop/docs" "$shop/bin"
 cp -r "$tree"/{sources,desk,crates.txt,crates} release packages packaging hall examples include web SECURITY.md LICENSE "$shop"
 cp "$archive" "$shop/bin"
 echo page > "$shop/bin/desk.html"
-cp docs/NOTATION.md docs/RULES.md docs/GAME.md docs/HALL.md docs/{answer,game}.schema.json "$shop/docs"
+cp docs/NOTATION.md docs/RULES.md docs/GAME.md docs/HALL.md docs/{answer,game,study}.schema.json "$shop/docs"
 cp "$program" "$shop/bin/riichi_desk"
 printf 'proved with kit-0, logic 0123\nsources %s\nprogram %s\n' "$sum" "$(sha256sum < "$program" | cut -d' ' -f1)" > "$shop/bin/riichi_desk.proved"
 version=$("$program" --version | sed 's/^riichi_desk //')
@@ -38,12 +38,12 @@ told 'the checksums of the release' "riichi_desk-$version-linux-arm64.tar.gz: OK
 $name.tar.gz: OK
 riichi_desk-$version-windows-x86_64.zip: OK" "$(cd "$shop/releases" && cat ./*.sha256 | sha256sum -c)"
 told 'the release once more, to the byte' "$first" "$(by_hand "$shop" ./release > /dev/null; cd "$shop/releases" && sha256sum -- *)"
-told 'what is in the archive for Windows' 'GAME.md LICENSE NOTATION.md README.md RULES.md SHA256SUMS answer.schema.json examples game.schema.json libriichi_desk_c.a licences riichi_desk.c riichi_desk.exe riichi_desk.h' \
+told 'what is in the archive for Windows' 'GAME.md LICENSE NOTATION.md README.md RULES.md SHA256SUMS answer.schema.json examples game.schema.json libriichi_desk_c.a licences riichi_desk.c riichi_desk.exe riichi_desk.h study.schema.json' \
   "$(unzip -l "$shop/releases/riichi_desk-$version-windows-x86_64.zip" | sed -n "s|.* riichi_desk-$version-windows-x86_64/\([^/]*\).*|\1|p" | sort -u | xargs)"
 told 'how it is called there' 3 "$(unzip -p "$shop/releases/riichi_desk-$version-windows-x86_64.zip" '*/README.md' | grep -cF '$ .\riichi_desk.exe ')"
 tar -C "$scripts" -xf "$shop/releases/$name.tar.gz"
 unpacked=$scripts/$name
-told 'what is in the release' 'GAME.md HALL.md LICENSE NOTATION.md README.md RULES.md SECURITY.md SHA256SUMS answer.schema.json completions desk.html examples game.schema.json library libriichi_desk_c.a licences packages riichi_desk riichi_desk.1 riichi_desk.h riichi_desk.proved' \
+told 'what is in the release' 'GAME.md HALL.md LICENSE NOTATION.md README.md RULES.md SECURITY.md SHA256SUMS answer.schema.json completions desk.html examples game.schema.json library libriichi_desk_c.a licences packages riichi_desk riichi_desk.1 riichi_desk.h riichi_desk.proved study.schema.json' \
   "$(cd "$unpacked" && echo *)"
 told 'its files are whole' 0 "$(cd "$unpacked" && sha256sum --quiet -c SHA256SUMS > /dev/null; echo $?)"
 # printed WORD: the commands in the block of its README that has WORD; they answer in the release's folder

@@ -1,47 +1,131 @@
 # Rows of the command `study`, read by tests/program.sh: answers to questions of shapes and of calls, their orders, and what is refused.
 
 near=234m45678p34s558s far=123m4467p23557s1z wide=45567m1236788p46s
-row 0 'shanten 1 accepts 3p:4 6p:3 9p:4 2s:4 5s:2 8s:3 live 20
-  live 20 second 165 good 20' '' study shape $near
+row 0 'shanten 1 accepts 3p:4 6p:3 9p:4 2s:4 5s:2 8s:3 live 20 second 165 good 20' '' study shape $near
 row 0 'shanten 0 accepts 2p:4 5p:4 live 8' '' study shape 123456789m1134p
-# below the answer, which is that of `line`, each best discard has its figures, in the order that is wanted
-told 'study and line' "$("$program" shape $wide)" "$("$program" study shape $wide | grep -v '^  ')"
-# figures QUESTION..: which discards of a shape stand below its answer, of the two that are named
+# an answer is that of `line` with the figures, and each best discard has its own, in the order that is wanted
+told 'study and line' "$("$program" shape $wide)" "$("$program" study shape $wide | sed 's/ second [0-9]* good [0-9]*//g')"
+# discards QUESTION..: each discard of a shape's answer on a line, its figures without what is accepted
+discards() {
+  "$program" study "$@" | sed 's/ discard /\n&/g' | sed -n 's/^ \(discard [^ ]*\) accepts .* live/\1 live/p'
+}
+# figures ONE OTHER QUESTION..: the lines of two of them
 figures() {
   local first=$1 second=$2
   shift 2
-  "$program" study "$@" | grep -E "^  discard ($first|$second) "
+  discards "$@" | grep -E "^discard ($first|$second) "
 }
-told 'second and good of 8p and 4s' $'  discard 8p live 29 second 135 good 10\n  discard 4s live 16 second 105 good 16' "$(figures 8p 4s shape $wide)"
-told 'the same by good' $'  discard 4s live 16 second 105 good 16\n  discard 8p live 29 second 135 good 10' "$(figures 8p 4s shape $wide order=good)"
-told 'the same by second' $'  discard 8p live 29 second 135 good 10\n  discard 4s live 16 second 105 good 16' "$(figures 8p 4s shape order=second $wide)"
-told 'by live copies' $'  discard 5s live 37 second 463 good 37\n  discard 7m live 27 second 476 good 27' "$(figures 5s 7m shape 44577m23p3356678s order=live)"
-told 'by second' $'  discard 7m live 27 second 476 good 27\n  discard 5s live 37 second 463 good 37' "$(figures 5s 7m shape 44577m23p3356678s order=second)"
-told 'by good' $'  discard 2m live 17 second 120 good 17\n  discard 6s live 28 second 144 good 12' "$(figures 6s 2m shape 23678m23p1236789s order=good)"
+told 'second and good of 8p and 4s' $'discard 8p live 29 second 135 good 10\ndiscard 4s live 16 second 105 good 16' "$(figures 8p 4s shape $wide)"
+told 'the same by good' $'discard 4s live 16 second 105 good 16\ndiscard 8p live 29 second 135 good 10' "$(figures 8p 4s shape $wide order=good)"
+told 'the same by second' $'discard 8p live 29 second 135 good 10\ndiscard 4s live 16 second 105 good 16' "$(figures 8p 4s shape order=second $wide)"
+told 'by live copies' $'discard 5s live 37 second 463 good 37\ndiscard 7m live 27 second 476 good 27' "$(figures 5s 7m shape 44577m23p3356678s order=live)"
+told 'by second' $'discard 7m live 27 second 476 good 27\ndiscard 5s live 37 second 463 good 37' "$(figures 5s 7m shape 44577m23p3356678s order=second)"
+told 'by good' $'discard 2m live 17 second 120 good 17\ndiscard 6s live 28 second 144 good 12' "$(figures 6s 2m shape 23678m23p1236789s order=good)"
 told 'a good wait is the narrower one' 'discard 2s live 20 good 20, discard 8s live 33 good 10' \
-  "$("$program" study shape 45678m345p2467s88s order=good | awk '/^  discard (2s|8s) / { said = said (said ? ", " : "") $1 " " $2 " " $3 " " $4 " " $7 " " $8 } END { print said }')"
-told 'three steps from ready' '  live 16 second 160 good 16' "$("$program" study shape 1357m245p2346s77z | tail -n 1)"
+  "$(figures 2s 8s shape 45678m345p2467s88s order=good | sed 's/ second [0-9]*//' | paste -s -d , | sed 's/,/, /g')"
+told 'three steps from ready' ' live 16 second 160 good 16' "$("$program" study shape 1357m245p2346s77z | grep -o ' live 16 .*')"
 
-# calls: each that brings nearer, for every run
-row 0 'calls chi:345p
-  chi:345p shanten 0 discard 8s accepts 2s:4 5s:2 live 6 discard 5s accepts 8s:3 live 3' '' study calls $near tile=3p from=left
-row 0 'calls chi:456p chi:678p
-  chi:456p shanten 0 discard 8s accepts 2s:4 5s:2 live 6 discard 5s accepts 8s:3 live 3
-  chi:678p shanten 0 discard 8s accepts 2s:4 5s:2 live 6 discard 5s accepts 8s:3 live 3' '' study calls $near tile=6p from=left
-row 0 'calls chi:789p
-  chi:789p shanten 0 discard 8s accepts 2s:4 5s:2 live 6 discard 5s accepts 8s:3 live 3' '' study calls from=left tile=9p $near
-row 0 'calls chi:234s
-  chi:234s shanten 0 discard 8s accepts 3p:4 6p:3 9p:4 live 11' '' study calls $near tile=2s from=left
-row 0 'calls chi:345s
-  chi:345s shanten 0 discard 8s accepts 3p:4 6p:3 9p:4 live 11' '' study calls $near tile=5s from=left
-row 0 'calls pon:444p
-  pon:444p shanten 1 discard 7s accepts 5p:4 8p:4 1s:4 4s:4 live 16 discard 1z accepts 5p:4 8p:4 1s:4 4s:4 live 16' '' study calls $far tile=4p from=across
+# calls: each that brings nearer, for every run, one after another
+row 0 'calls chi:345p shanten 0 discard 8s accepts 2s:4 5s:2 live 6 discard 5s accepts 8s:3 live 3' '' study calls $near tile=3p from=left
+row 0 'calls chi:456p shanten 0 discard 8s accepts 2s:4 5s:2 live 6 discard 5s accepts 8s:3 live 3 chi:678p shanten 0 discard 8s accepts 2s:4 5s:2 live 6 discard 5s accepts 8s:3 live 3' '' \
+  study calls $near tile=6p from=left
+row 0 'calls chi:789p shanten 0 discard 8s accepts 2s:4 5s:2 live 6 discard 5s accepts 8s:3 live 3' '' study calls from=left tile=9p $near
+row 0 'calls chi:234s shanten 0 discard 8s accepts 3p:4 6p:3 9p:4 live 11' '' study calls $near tile=2s from=left
+row 0 'calls chi:345s shanten 0 discard 8s accepts 3p:4 6p:3 9p:4 live 11' '' study calls $near tile=5s from=left
+row 0 'calls pon:444p shanten 1 discard 7s accepts 5p:4 8p:4 1s:4 4s:4 live 16 discard 1z accepts 5p:4 8p:4 1s:4 4s:4 live 16' '' study calls $far tile=4p from=across
 # a run is called from the left alone; a pon of 5s and a chi of 4p bring nothing, nor does a pair that the hand needs
 for question in "$near tile=3p from=right" "$near tile=5s from=across" "$near tile=4p from=left" '1357m246p468s557z tile=5z from=left' '123456789m1134p tile=2p from=left'; do
   row 0 'calls none' '' study calls $question
 done
 # a kong brings nothing nearer, and may lose what a hand accepts
-told 'a kong is told below the calls' 'calls none,  kan:1111z' "$("$program" study calls 123456m12p34s111z tile=1z from=across | cut -d ' ' -f 1-3 | paste -s -d ,)"
+told 'a kong is told behind the calls' 'calls none kan:1111z shanten' "$("$program" study calls 123456m12p34s111z tile=1z from=across | cut -d ' ' -f 1-4)"
+
+# in words, lines below each answer
+row 0 'shanten 1 accepts 3p:4 6p:3 9p:4 2s:4 5s:2 8s:3 live 20 second 165 good 20
+  20 live tiles bring the hand nearer; 165 draws of two tiles, one after the other, bring it two nearer; 20 of the 20 leave five live tiles or more' '' study --explain shape $near
+row 0 'shanten 0 accepts 2p:4 5p:4 live 8
+  8 live tiles win' '' study --explain shape 123456789m1134p
+told 'discards in words' '  after 4s: 16 live tiles bring the hand nearer; 105 draws of two tiles, one after the other, bring it two nearer; 16 of the 16 leave five live tiles or more
+  after 8p: 29 live tiles bring the hand nearer; 135 draws of two tiles, one after the other, bring it two nearer; 10 of the 29 leave five live tiles or more' \
+  "$("$program" study --explain shape order=good $wide | grep -E '^  after (4s|8p): ')"
+told 'a line in words for each discard' "$(discards shape $wide order=good | cut -d ' ' -f 2)" "$("$program" study --explain shape $wide order=good | sed -n 's/^  after \(..\): .*/\1/p')"
+row 0 'calls chi:345p shanten 0 discard 8s accepts 2s:4 5s:2 live 6 discard 5s accepts 8s:3 live 3
+  chi:345p: then throw 8s (6 live) or 5s (3 live)' '' study --explain calls $near tile=3p from=left
+told 'four discards in words' '  chi:567p: then throw 1z (16 live), 5s (12 live), 7s (12 live) or 2s (8 live)' "$("$program" study --explain calls $far tile=5p from=left | tail -n 1)"
+told 'one discard in words' '  chi:234s: then throw 8s (11 live)' "$("$program" study --explain calls $near tile=2s from=left | tail -n 1)"
+row 0 'calls none
+  no call brings the hand nearer' '' study --explain calls $near tile=3p from=right
+told 'a kong in words' '  no call brings the hand nearer
+  kan:1111z: brings the hand no nearer' "$("$program" study --explain calls 123456m12p34s111z tile=1z from=across | tail -n 2)"
+row 1 'refused H4' '' study --explain shape $near order=best
+
+# as JSON, an object a line
+row 0 '{"answer":"shape","shanten":1,"second":165,"good":20,"accepts":[{"kind":"3p","live":4},{"kind":"6p","live":3},{"kind":"9p","live":4},{"kind":"2s","live":4},{"kind":"5s","live":2},{"kind":"8s","live":3}],"live":20}' '' study --json shape $near
+row 0 '{"answer":"shape","shanten":0,"accepts":[{"kind":"2p","live":4},{"kind":"5p","live":4}],"live":8}' '' study --json shape 123456789m1134p
+told 'discards as objects' "$(discards shape $wide order=good | sed 's/discard \(..\) live [0-9]* second \([0-9]*\) good \([0-9]*\)/"discard":"\1","second":\2,"good":\3,/')" \
+  "$("$program" study --json shape $wide order=good | grep -oE '"discard":"..",("second":[0-9]*,"good":[0-9]*,)?')"
+told 'what stands before them' '{"answer":"shape","shanten":1,"order":"good","discards":[{' "$("$program" study --json shape $wide order=good | grep -o '^[^[]*\[{')"
+row 0 '{"answer":"calls","shanten":1,"calls":[{"meld":"chi:345p","discards":[{"discard":"8s","live":6},{"discard":"5s","live":3}]}],"kong":null}' '' study --json calls $near tile=3p from=left
+row 0 '{"answer":"calls","shanten":1,"calls":[{"meld":"chi:456p","discards":[{"discard":"8s","live":6},{"discard":"5s","live":3}]},{"meld":"chi:678p","discards":[{"discard":"8s","live":6},{"discard":"5s","live":3}]}],"kong":null}' '' \
+  study --json calls $near tile=6p from=left
+row 0 '{"answer":"calls","shanten":1,"calls":[],"kong":null}' '' study --json calls $near tile=3p from=right
+told 'a kong as an object' '"calls":[],"kong":{"meld":"kan:1111z","shanten":' "$("$program" study --json calls 123456m12p34s111z tile=1z from=across | grep -o '"calls":.*kan:1111z","shanten":')"
+row 1 '{"answer":"refused","code":"H4"}' '' study --json shape $near order=best
+row 1 '{"answer":"refused","code":"N2","text":"hand","place":2}' '' study --json 'shape 12x3m'
+row 2 '' 'cannot be used with' study --json --explain shape $near
+
+# furiten and safe tiles: what can't be won on, the two-sided waits on the other kinds, and the own hand's furiten
+honours=11122233344z
+# 1p and 9p were thrown: 23p waits for 1p and 4p, 78p for 6p and 9p, so both are gone by suji; 56p and 45p stay. The hand waits for
+# 5p alone, and has thrown one.
+row 0 'safe none discard 4p 23p:suji 56p:open discard 6p 45p:open 78p:suji furiten 5p' '' study safe ${honours}46p thrown=1p9p own=5p
+# thrown, or passed since the riichi, and held: 1z and 4p; 6p's waits don't use 4p as the other kind (45p waits for 3p, 78p for 9p)
+row 0 'safe 4p 1z discard 6p 45p:open 78p:open furiten none' '' study safe ${honours}46p thrown=1z since=4p
+# at the edges: 12p and 89p are no two-sided waits, nor is a pair over two suits; this hand isn't ready
+row 0 'safe none discard 1p 23p:open discard 7p 56p:open' '' study safe ${honours}17p
+# 8p is waited for by 67p (with 5p), 9p by 78p (with 6p); the hand waits for 7p by an edge run
+row 0 'safe none discard 8p 67p:suji discard 9p 78p:suji furiten 7p' '' study safe ${honours}89p thrown=5p since=6p own=7p
+# honours have no two-sided waits, and fourteen tiles have no furiten
+row 0 'safe 1z 4z' '' study safe 11122233344455z thrown=1z since=4z own=5z
+# both thrown and a wall is suji: 1p was thrown, and all four 2p are seen
+row 0 'safe none discard 4p 23p:suji 56p:open discard 6p 45p:open 78p:open furiten none' '' study safe ${honours}46p thrown=1p seen=2222p
+# a wall by tiles of every list: four 5p, so that neither 56p nor 45p is held; three are no wall
+row 0 'safe none discard 4p 23p:open 56p:wall discard 6p 45p:wall 78p:open furiten 5p' '' study safe ${honours}46p own=5p thrown=5p since=5p seen=5p
+row 0 'safe none discard 4p 23p:open 56p:open discard 6p 45p:open 78p:open furiten none' '' study safe ${honours}46p thrown=5p since=5p seen=5p
+# one end of the own two-sided wait was thrown: furiten, also for 1p
+row 0 'safe none discard 2p 34p:open discard 3p 45p:open furiten 4p' '' study safe ${honours}23p own=4p
+# melds are seen too: three 5p there and one elsewhere; the hand still waits for 5p, of which it hasn't all four itself
+row 0 'safe none discard 4p 23p:open 56p:wall discard 6p 45p:wall 78p:open furiten none' '' study safe 46p44z open=pon:555p,pon:222z,pon:333z seen=5p
+# with a kong of 5p it waits for nothing
+row 0 'safe none discard 4p 23p:open 56p:wall discard 6p 45p:wall 78p:open' '' study safe 46p44z open=kan:5555p,pon:222z,pon:333z
+row 0 'safe none discard 4p 23p:suji 56p:open discard 6p 45p:open 78p:suji furiten 5p
+  4p: who waits with 23p waits for 1p too, and wins on neither (suji)
+  4p: who waits with 56p waits for 7p too (open)
+  6p: who waits with 45p waits for 3p too (open)
+  6p: who waits with 78p waits for 9p too, and wins on neither (suji)
+  furiten, no win by ron: the hand has thrown what it waits for: 5p' '' study --explain safe ${honours}46p thrown=1p9p own=5p
+row 0 '{"answer":"safe","safe":[],"waits":[{"kind":"4p","below":"suji","above":"open"},{"kind":"6p","below":"open","above":"suji"}],"furiten":["5p"]}' '' study --json safe ${honours}46p thrown=1p9p own=5p
+row 0 '{"answer":"safe","safe":["1z","4z"],"waits":[],"furiten":null}' '' study --json safe 11122233344455z thrown=1z since=4z own=5z
+row 1 'refused H4' '' study safe ${honours}46p own=5x
+row 1 'refused H4' '' study safe ${honours}46p since=55555p
+row 1 'refused H4' '' study safe ${honours}46p tile=5p
+row 1 'refused H5' '' study safe ${honours}46p own=5p own=6p thrown=x
+row 1 'refused H8' '' study safe ${honours}4p own=x
+row 1 'refused H9' '' study safe ${honours}46p thrown=1z since=1z
+row 1 'refused N5 hand at 0' '' study safe 8z own=x
+
+# ten more, each by every choice of blocks and every draw (a program in plain Rust that keeps to the definitions)
+row 0 'shanten 1 accepts 8m:3 5s:3 7s:3 live 9 second 27 good 0' '' study shape 2244668m1133p57s
+row 0 'shanten 2 accepts 1m:3 9m:3 1p:3 9p:3 1s:3 9s:4 1z:3 2z:3 3z:3 4z:3 5z:3 6z:3 7z:4 live 41 second 584 good 41' '' study shape 19m19p1s123456z55m
+row 0 'shanten 1 accepts 5p:3 8p:2 2s:2 5s:2 live 9 second 40 good 4' '' study shape 345m67p2255s1m open=pon:111z seen=588p
+row 0 'shanten 2 accepts 1m:4 2m:3 3m:3 4m:3 5m:3 6m:4 7m:3 3p:2 4s:3 5s:3 6s:3 live 34 second 498 good 34' '' study shape 2357m46s3p open=chi:123p,ankan:7777z seen=4m5s
+row 0 'shanten 1 discard 1m accepts 3p:4 4p:4 5p:3 6p:3 7p:3 8p:3 9p:4 1s:4 2s:3 3s:2 4s:4 live 37 second 260 good 30 discard 2s accepts 1m:2 2m:3 3m:3 4m:3 7m:4 3p:4 4p:4 5p:3 6p:3 7p:3 8p:3 9p:4 3s:2 live 41 second 238 good 18 discard 5p accepts 1m:2 2m:3 3m:3 4m:3 7m:4 1s:4 2s:3 3s:2 4s:4 live 28 second 200 good 19 discard 8p accepts 1m:2 2m:3 3m:3 4m:3 7m:4 1s:4 2s:3 3s:2 4s:4 live 28 second 200 good 19 discard 3s accepts 1m:2 4m:3 7m:4 5p:3 8p:3 1s:4 4s:4 live 23 second 192 good 23' '' study shape 1123456m5678p233s order=second
+row 0 'shanten 0 discard 4m accepts 2p:4 5p:4 live 8 discard 7m accepts 2p:4 5p:4 live 8' '' study shape 4455667m34p55s open=pon:999s seen=366p
+row 0 'calls chi:345m shanten 0 discard 4s accepts 5s:4 live 4 discard 6s accepts 3m:1 4s:2 live 3 pon:333m shanten 0 discard 6s accepts 3m:1 6m:4 live 5' '' study calls 3345m678p446s tile=3m from=left open=pon:222z
+parted=24m55567p3349s77z
+row 0 'calls chi:678p shanten 1 discard 9s accepts 3m:2 2s:4 3s:2 5s:4 7z:1 live 13 discard 3s accepts 3m:2 2s:4 5s:4 live 10 discard 4s accepts 3m:2 3s:2 7z:1 live 5' '' study calls $parted tile=8p from=left seen=33m5p7z
+row 0 'calls pon:777z shanten 1 discard 9s accepts 3m:2 8p:4 2s:4 3s:2 5s:4 live 16 discard 3s accepts 3m:2 2s:4 5s:4 live 10 discard 4s accepts 3m:2 8p:4 3s:2 live 8' '' study calls $parted tile=7z from=right seen=33m5p7z
+row 0 'calls none' '' study calls 1199m44p2356s155z tile=4s from=left
 
 # what is refused: words that are no question's, values that say nothing, words that are missing, and a fifth tile
 for question in 'win 123m' 'waits 1112345678999m' "order=good"; do
@@ -64,6 +148,9 @@ row 1 'refused N6 seen at 4' '' study calls $near tile=3p from=left seen=33333p
 printf 'rules 2\n# of the evening\n\nshape 123456789m1134p\r\ncalls %s tile=3p from=right\nshape 8z\n' $near > "$room/input"
 row 1 $'shanten 0 accepts 2p:4 5p:4 live 8\ncalls none\nrefused N5 hand at 0' '' study
 row 1 $'4:shanten 0 accepts 2p:4 5p:4 live 8\n5:calls none\n6:refused N5 hand at 0' '' study --number --file -
+row 1 $'{"line":4,"answer":"shape","shanten":0,"accepts":[{"kind":"2p","live":4},{"kind":"5p","live":4}],"live":8}\n{"line":5,"answer":"calls","shanten":1,"calls":[],"kong":null}\n{"line":6,"answer":"refused","code":"N5","text":"hand","place":0}' '' \
+  study --json --number --file -
+row 1 $'4:shanten 0 accepts 2p:4 5p:4 live 8\n  8 live tiles win\n5:calls none\n  no call brings the hand nearer\n6:refused N5 hand at 0' '' study --explain --number
 printf 'shape 123456789m1134p\nrules 2' > "$room/two"
 row 1 $'1:shanten 0 accepts 2p:4 5p:4 live 8\n2:refused H2\n1:shanten 0 accepts 2p:4 5p:4 live 8\n2:refused H2' '' study --number --file "$room/two" "$room/two"
 row 0 $'shanten 0 accepts 2p:4 5p:4 live 8\ncalls none' '' study 'shape 123456789m1134p' "calls $near tile=3p from=right"

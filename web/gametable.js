@@ -71,7 +71,7 @@ function seat(game, who) {
 }
 
 function undoButton() {
-  const undo = key("undo", phrase("undo"), tapped(takeBackLines), { "data-undo": "" });
+  const undo = key("undo", phrase("take back"), tapped(takeBackLines), { "data-undo": "" });
   undo.disabled = evening.past.length === 0;
   return undo;
 }

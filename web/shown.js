@@ -23,6 +23,12 @@ function sizeWords({ yakuman, han, fu, limit }) {
   return limit ? colon(named(limit === "yakuman" ? "kazoe" : limit), size) : size;
 }
 
+// What of a self-draw's gain nobody pays, since it lies on the table.
+function fromSticks(gain, { dealer, each_other: other, each }) {
+  const paid = each === undefined ? dealer + 2 * other : 3 * each;
+  return gain > paid ? [make("small", {}, `${named("sticks")} ${signed(gain - paid)}`)] : [];
+}
+
 // Who pays a self-draw, seat by seat as the four sit, the winner at the lower edge: next in turn to the right, then across, then to
 // the left.
 function shownSeats({ payment, gain }, { line }) {
@@ -33,7 +39,7 @@ function shownSeats({ payment, gain }, { line }) {
     const wind = "ESWN"[(seat + at + 1) % 4];
     return make("span", { class: place }, `${named(wind)} `, make("span", { class: "amount" }, `${points(-paid(wind))} ${arrow}`));
   });
-  const winner = make("span", { class: "winner" }, `${named("ESWN"[seat])} ${signed(gain)}`);
+  const winner = make("span", { class: "winner" }, `${named("ESWN"[seat])} ${signed(gain)}`, ...fromSticks(gain, payment));
   return [make("div", { class: "seats-drawn", "aria-hidden": "true" }, ...others, winner)];
 }
 

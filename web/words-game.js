@@ -46,9 +46,10 @@ export const GAME_WORDS = {
   "more outcomes": ["What else a deal comes to", "そのほかの結果", "Wie ein Spiel sonst endet", "Autres fins d’une donne", "Inne zakończenia rozdania"],
   "deals": ["Deals", "局の記録", "Spiele", "Donnes", "Rozdania"],
   "undo": ["Undo", "取消", "Zurück", "Retour", "Cofnij"],
+  "take back": ["Undo", "取消", "Rückgängig", "Annuler", "Cofnij"],
   "sheet": ["Sheet of the game", "成績表", "Ergebnis der Partie", "Feuille de la partie", "Wyniki gry"],
   "text": ["As a text", "テキスト", "Als Text", "En texte", "Jako tekst"],
-  "need": ["What it takes", "条件計算", "Was fehlt", "Ce qu’il faut", "Czego trzeba"],
+  "need": ["What it takes", "条件計算", "Was fehlt", "Conditions", "Warunki"],
   "seats": ["The four players", "四人の対局者", "Die vier Spieler", "Les quatre joueurs", "Czterech graczy"],
   "over": ["The game is over", "終局", "Die Partie ist zu Ende", "La partie est finie", "Koniec gry"],
   "share": ["Share", "共有", "Teilen", "Partager", "Udostępnij"],
@@ -78,15 +79,15 @@ export const GAME_WORDS = {
 
   // State
   "deal": ["{round} {number}", "{round}{number}局", "{round} {number}", "{round} {number}", "{round} {number}"],
-  "counters": ["{@counters} {number}", "{number}本場", "{@counters} {number}", "{@counters} {number}", "{@counters} {number}"],
-  "sticks": ["{@sticks} {number}", "供託{number}本", "Stäbe {number}", "Bâtons {number}", "Patyczki {number}"],
+  "counters": ["{@counters}\u00a0{number}", "{number}本場", "{@counters}\u00a0{number}", "{@counters}\u00a0{number}", "{@counters}\u00a0{number}"],
+  "sticks": ["{@sticks}\u00a0{number}", "供託{number}本", "Stäbe\u00a0{number}", "Bâtons\u00a0{number}", "Patyczki\u00a0{number}"],
   "dealer": ["Dealer", "親", "Geber", "Donneur", "Rozdający"],
 
   // Outcomes
   "win pad": ["Win: points", "和了・点", "Sieg: Punkte", "Gain : points", "Wygrana: punkty"],
   "win tiles": ["Win: tiles", "和了・牌", "Sieg: Steine", "Gain : tuiles", "Wygrana: kamienie"],
   "wins": ["{names}: win", "{names}の和了", "{names}: Sieg", "{names} : gain", "{names}: wygrana"],
-  "draw": ["Draw", "流局", "Unentschieden", "Égalité", "Remis"],
+  "draw": ["Draw", "流局", "Remis", "Égalité", "Remis"],
   "abort": ["Abortive draw", "途中流局", "Abbruch", "Donne annulée", "Przerwane rozdanie"],
   "abort help": [
     "Four winds, nine terminals and honours, four riichi or four kongs: nothing is paid.",

@@ -5,7 +5,7 @@
 //! shapes and shanten alone (`time_shapes` makes it);
 //! `bench pool PROGRAM [LINES]` times `score` beside `line`;
 //! `bench study < FILE` answers lines of second, good and calls, each by its definition, and `bench studies [COUNT [SEED]]` writes
-//! random ones;
+//! random ones; `bench safe < FILE` answers lines of furiten and safe tiles, and `bench safes [COUNT [SEED]]` writes random ones;
 //! `bench ledger < FILE` answers a text of games, `bench need NAME [PLACE [NAMES]] < FILE` says what a player needs, and
 //! `bench games [COUNT [SEED [FOLDER]]]` writes random texts of games;
 //! `bench seats < FILE` checks the games of a tournament's sessions, as `seats` writes them, and what their notes claim;
@@ -24,6 +24,7 @@ mod lines;
 mod pen;
 mod pool;
 mod rows;
+mod safe;
 mod score;
 mod seats;
 mod shape;
@@ -65,6 +66,11 @@ fn main() -> std::io::Result<()> {
             let number = |at: usize, or| words.get(at).and_then(|word| word.parse().ok()).unwrap_or(or);
             deeper::write_lines(number(2, 1000), number(3, 1) as u64)
         }
+        Some("safe") => safe::answer(),
+        Some("safes") => {
+            let number = |at: usize, or| words.get(at).and_then(|word| word.parse().ok()).unwrap_or(or);
+            safe::write_lines(number(2, 1000), number(3, 1) as u64)
+        }
         Some("standings") => ledger::answer_standings(&words[2..]),
         Some("tournament") => {
             let number = |at: usize| words.get(at).and_then(|word| word.parse().ok()).unwrap_or(4);
@@ -85,7 +91,7 @@ fn main() -> std::io::Result<()> {
             Ok(())
         }
         None => {
-            eprintln!("usage: bench PROGRAM [LINES] | bench best TIMED | bench shapes TIMED [HANDS] | bench pool PROGRAM [LINES] | bench answer [RULES] < FILE | bench study < FILE | bench studies [COUNT [SEED]] | bench games [COUNT [SEED [FOLDER]]] | bench ledger [--coverage] < FILE | bench standings [firsts|best] FILE.. | bench tournament PLAYERS SESSIONS SEED FOLDER | bench need NAME [PLACE [NAMES]] < FILE | bench seats < FILE | bench lines win|waits|shape13|shape14|mixed COUNT");
+            eprintln!("usage: bench PROGRAM [LINES] | bench best TIMED | bench shapes TIMED [HANDS] | bench pool PROGRAM [LINES] | bench answer [RULES] < FILE | bench study < FILE | bench studies [COUNT [SEED]] | bench safe < FILE | bench safes [COUNT [SEED]] | bench games [COUNT [SEED [FOLDER]]] | bench ledger [--coverage] < FILE | bench standings [firsts|best] FILE.. | bench tournament PLAYERS SESSIONS SEED FOLDER | bench need NAME [PLACE [NAMES]] < FILE | bench seats < FILE | bench lines win|waits|shape13|shape14|mixed COUNT");
             std::process::exit(2)
         }
     }

@@ -36,9 +36,9 @@ static const char help[] =
     "  --workers N, --quiet   are taken and change nothing: one thread answers, and no progress is shown\n"
     "  --version   the name and version of the library\n"
     "A first line `rules 2` sets the rules of its text too. The file - is standard input.\n\n"
-    "Not here: need, seats, standings, replay; explain --all (explain --json has every reading); game --explain, --json,\n"
-    "--number and --sheet. The program for Linux on x86-64 has them, on Windows under WSL. help-codes, help-rules and\n"
-    "help-yaku are tables of NOTATION.md and RULES.md.\n\n"
+    "Not here: need, seats, standings, study, replay; explain --all (explain --json has every reading); game --explain,\n"
+    "--json, --number and --sheet. The program for Linux on x86-64 has them, on Windows under WSL. help-codes, help-rules\n"
+    "and help-yaku are tables of NOTATION.md and RULES.md.\n\n"
     "Exit status: 0 answered, 1 answered and something was refused, 2 wrong words, 3 input or output failed, 4 no memory\n";
 
 typedef size_t answer_call(uint32_t, const uint8_t *, size_t, uint8_t *, size_t, size_t *);
@@ -343,7 +343,7 @@ static const struct command {
 /* What of the program's commands and options isn't here, and where it is. */
 static int is_absent(const char *command, const char *word) {
     static const char elsewhere[] = "the program for Linux on x86-64 has it, on Windows under WSL";
-    static const char *const others[] = {"need", "seats", "standings", "replay"};
+    static const char *const others[] = {"need", "seats", "standings", "study", "replay"};
     for (size_t at = 0; at < sizeof others / sizeof *others; at++)
         if (strcmp(command, others[at]) == 0) return absent(command, elsewhere);
     if (strcmp(command, "help-codes") == 0) return absent(command, "NOTATION.md has what each refusal means");

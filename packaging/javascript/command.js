@@ -23,10 +23,10 @@ Commands:
   --version   the name and version of the library
 A first line \`rules 2\` sets the rules of its text too. The file - is standard input.
 
-Not here: need, seats, standings, replay; explain --all (explain --json has every reading); game --explain, --json,
---number and --sheet. The program for Linux on x86-64 has them, on Windows under WSL; the class Game of this package
-has what a player needs, and why each is paid. help-codes, help-rules and help-yaku are tables of NOTATION.md and
-RULES.md.
+Not here: need, seats, standings, study, replay; explain --all (explain --json has every reading); game --explain,
+--json, --number and --sheet. The program for Linux on x86-64 has them, on Windows under WSL; the class Game of this
+package has what a player needs, and why each is paid. help-codes, help-rules and help-yaku are tables of
+NOTATION.md and RULES.md.
 
 Exit status: 0 answered, 1 answered and something was refused, 2 wrong words, 3 input or output failed
 `;
@@ -49,7 +49,7 @@ const COMMANDS = {
 
 // What the program has and this has not: commands, and options of a command, each with where it is.
 const ABSENT = {
-  need: ELSEWHERE, seats: ELSEWHERE, standings: ELSEWHERE, replay: ELSEWHERE,
+  need: ELSEWHERE, seats: ELSEWHERE, standings: ELSEWHERE, study: ELSEWHERE, replay: ELSEWHERE,
   "help-codes": "NOTATION.md has what each refusal means",
   "help-rules": "RULES.md has the rules", "help-yaku": "RULES.md has the yaku",
   "explain --all": "explain --json has every reading",

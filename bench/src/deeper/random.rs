@@ -7,7 +7,7 @@ use crate::tiles::{write_counts, write_kind, Meld, Melds};
 use std::io::Write;
 
 /// A kind of which a copy is left.
-fn draw(dice: &mut Dice, hand: &Hand) -> usize {
+pub fn draw(dice: &mut Dice, hand: &Hand) -> usize {
     loop {
         let kind = dice.below(34);
         if dice.below(4) < hand.live(kind) as usize {
@@ -77,7 +77,7 @@ pub fn random_tile(dice: &mut Dice, known: &mut Known, hand: &Hand) -> usize {
     }
 }
 
-fn write_keys(out: &mut Vec<u8>, hand: &Hand) {
+pub fn write_keys(out: &mut Vec<u8>, hand: &Hand) {
     for (place, &meld) in hand.melds.iter().enumerate() {
         out.extend_from_slice(if place == 0 { b" open=" } else { b"," });
         write_meld(out, meld);

@@ -26,6 +26,8 @@ use Rattle.desk_cli.specs.declared.request.Request.{Request}
 use Rattle.desk_cli.specs.declared.request.SeatsRequest.{SeatsRequest}
 use Rattle.desk_cli.specs.declared.request.StandingsForm.{StandingsForm}
 use Rattle.desk_cli.specs.declared.request.StandingsForm.TheVariants as standings_forms
+use Rattle.desk_cli.specs.declared.request.StudyForm.{StudyForm}
+use Rattle.desk_cli.specs.declared.request.StudyForm.TheVariants as study_forms
 use Rattle.desk_cli.specs.declared.request.StandingsRequest.{StandingsRequest}
 use Rattle.desk_cli.specs.declared.request.TieWord.{TieWord}
 use Rattle.desk_cli.specs.declared.request.TieWord.TheVariants as tie_words
@@ -166,9 +168,18 @@ AsksForRecord command found (Some (requests.Waits hand)) =
 AsksForRecord command found (Some other) =
     (is_bare command found ≡ false) × AsksForLines found (IsRecord command found) other
 
+-- `study` answers in a line, with --explain says it in words below, with --json as objects
+pub record IsStudyForm (found : Found) (form : StudyForm) : Type 0 where
+  pub json : Bool
+  pub explain : Bool
+  pub json_given : IsFlag found (codes "json") json
+  pub explain_given : IsFlag found (codes "explain") explain
+  pub form_is : form ≡ (if json then study_forms.Objects else if explain then study_forms.Explained else study_forms.Answers)
+
 -- questions are to be answered
 abbrev pub AsksForStudy : Found → Request → Type 0
-AsksForStudy found (requests.Study lines is_numbered) = AreStudied found lines × IsFlag found (codes "number") is_numbered
+AsksForStudy found (requests.Study lines form is_numbered) =
+    AreStudied found lines × IsStudyForm found form × IsFlag found (codes "number") is_numbered
 AsksForStudy found other = ⊥
 
 abbrev pub AsksForReplay : Found → Option Request → Type 0

@@ -73,11 +73,12 @@ pub(crate) const STUDY_HELP: &str = with_statuses!(
     "\
 Example:
   riichi_desk study shape 45678m345p2467s88s order=good
-  riichi_desk study calls 234m45678p34s558s tile=3p from=left
+  riichi_desk study --explain calls 234m45678p34s558s tile=3p from=left
 
 Lines:
   shape HAND [open=MELDS] [seen=TILES] [order=live|second|good]
   calls HAND tile=T from=left|across|right [open=MELDS] [seen=TILES]
+  safe HAND [own=TILES] [thrown=TILES] [since=TILES] [open=MELDS] [seen=TILES]
 
 Exit status:
 "

@@ -26,7 +26,8 @@ pub enum Request<'m, 'a> {
     /// The answers to questions of a player or a trainer.
     Study {
         lines: Lines<'m, 'a>,
-        /// Whether each answer stands behind the number of its line.
+        form: StudyForm,
+        /// Whether each answer tells the number of its line.
         is_numbered: bool,
     },
     /// Every code in words.
@@ -61,6 +62,17 @@ pub enum Request<'m, 'a> {
         /// Whether it isn't to be shown how far the answers are.
         is_quiet: bool,
     },
+}
+
+/// How answers to questions are written.
+#[derive(Clone, Copy, Debug, PartialEq, Eq)]
+pub enum StudyForm {
+    /// In a line for each.
+    Answers,
+    /// The same, with lines in words below each.
+    Explained,
+    /// As objects of JSON, one for each.
+    Objects,
 }
 
 /// How texts of games are answered.
@@ -264,7 +276,22 @@ fn study_request<'m, 'a>(words: &'m ArgMatches<'a>) -> Request<'m, 'a>
     };
     Request::Study {
         lines,
+        form: study_form_in(words),
         is_numbered: words.get_flag("number"),
+    }
+}
+
+/// The form that answers to questions are wanted in.
+fn study_form_in(words: &ArgMatches<'_>) -> StudyForm
+    ensures { spec.IsStudyForm (found_of words.now) result }
+{
+    let is_told = words.get_flag("explain");
+    if words.get_flag("json") {
+        StudyForm::Objects
+    } else if is_told {
+        StudyForm::Explained
+    } else {
+        StudyForm::Answers
     }
 }
 

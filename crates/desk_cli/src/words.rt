@@ -233,11 +233,36 @@ fn lines_arg<'a>(alloc: Global) -> Result<Arg<'a>, AllocError> {
 }
 
 fn study_command<'a>(alloc: Global) -> Result<Command<'a>, AllocError> {
+    let json = study_json_arg(alloc)?;
     let lines = questions_arg(alloc)?;
-    let args = vec![in alloc; file_arg(alloc), number_arg(alloc), lines]?;
+    let args = vec![in alloc;
+        file_arg(alloc),
+        number_arg(alloc),
+        study_explain_arg(alloc),
+        json,
+        lines,
+    ]?;
     let about =
         "Answers a player's questions: what stands beyond a hand's next step, and which calls help";
     named(alloc, CommandName::Study, about, STUDY_HELP).args(args)
+}
+
+/// That it is wanted to be said in words what an answer means.
+fn study_explain_arg<'a>(alloc: Global) -> Arg<'a> {
+    flag(
+        alloc,
+        "explain",
+        "Says below each answer in words what it means",
+    )
+}
+
+/// That answers to questions are wanted as JSON, where they aren't to be explained in words.
+fn study_json_arg<'a>(alloc: Global) -> Result<Arg<'a>, AllocError> {
+    json_arg(
+        alloc,
+        "Answers each question by one object of JSON, what is refused too",
+    )
+    .conflicts_with("explain")
 }
 
 /// The questions, in place of files.

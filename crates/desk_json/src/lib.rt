@@ -23,6 +23,7 @@ mod waits;
 mod win;
 mod yaku;
 
-pub use refusal::{MOST_REFUSAL, push_refusal, refusal_text};
+pub use refusal::{MOST_CODE, MOST_REFUSAL, push_code, push_refusal, refusal_text};
+pub use shape::{MOST_ACCEPTED, push_accepted};
 pub use text::{JSON_ROOM, JsonText, MOST_ANSWER, answer_text, push_answer};
 pub use win::{MOST_OPEN_WIN, push_open_win};

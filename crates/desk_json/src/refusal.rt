@@ -13,7 +13,8 @@ use riichi_text::{MOST_U64, push_number};
 /// The bytes of the longest refusal.
 pub const MOST_REFUSAL: usize = MOST_CODE + MOST_KEY_MEMBER + MOST_PLACE + MOST_WORDS;
 
-const MOST_CODE: usize = "{\"answer\":\"refused\",\"code\":\"N1".len()
+/// The bytes of the longest code of a refusal.
+pub const MOST_CODE: usize = "{\"answer\":\"refused\",\"code\":\"N1".len()
     + "\",\"text\":\"".len()
     + Key::MOST_NAME
     + "\",\"place\":".len()
@@ -49,9 +50,10 @@ pub fn push_refusal(text: &mut JsonText, line: &[u8], refusal: &Refusal<'_>)
     push_words(text, refusal_words(line, refusal));
 }
 
-/// The code, and for a text of tiles its name and the place in it.
+/// Writes the beginning of a refusal's object: the code, and for a text of tiles its name and the place in it. The brace that ends it
+/// is left to write.
 #[tactic(auto, unfolding(crate::specs::Parts::code_json))]
-fn push_code(text: &mut JsonText, fault: &LineFault)
+pub fn push_code(text: &mut JsonText, fault: &LineFault)
     requires { array_string_len text.old + MOST_CODE ≤ JSON_ROOM }
     ensures bytes { text.new.bytes ≡ text.old.bytes ++ parts.code_json fault.now }
     ensures len { array_string_len text.new ≤ array_string_len text.old + MOST_CODE }

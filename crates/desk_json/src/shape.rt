@@ -22,7 +22,8 @@ const MOST_DISCARDS: usize = 14 * MOST_DISCARD;
 
 const MOST_DISCARD: usize = ",{\"discard\":\"1m\",".len() + MOST_ACCEPTED;
 
-const MOST_ACCEPTED: usize = "\"accepts\":[".len()
+/// The bytes of the longest members of what is accepted, with the brace behind them.
+pub const MOST_ACCEPTED: usize = "\"accepts\":[".len()
     + MOST_PAIRS
     + "],\"live\":".len()
     + MOST_U32
@@ -88,7 +89,7 @@ fn push_discard(text: &mut JsonText, later: bool, discard: &Discard)
 
 /// The accepted kinds with the live copies of all of them, and the brace after these.
 #[tactic(auto, unfolding(crate::specs::Parts::accepted_json))]
-fn push_accepted(text: &mut JsonText, accepted: &LiveList)
+pub fn push_accepted(text: &mut JsonText, accepted: &LiveList)
     requires { array_string_len text.old + MOST_ACCEPTED ≤ JSON_ROOM }
     ensures bytes { text.new.bytes ≡ text.old.bytes ++ spec.accepted_json accepted.now }
     ensures len { array_string_len text.new ≤ array_string_len text.old + MOST_ACCEPTED }

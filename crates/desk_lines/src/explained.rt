@@ -209,5 +209,5 @@ fn put_refused(rules: Rules, line: &[u8], refusal: &Refusal<'_>, outbox: &mut Ou
     put_fault(&refusal.fault, outbox);
     outbox.text.clear();
     push_refusal(&mut outbox.text, rules, line, refusal);
-    outbox.put_lines();
+    outbox.put_piece();
 }

@@ -35,7 +35,8 @@ pub struct Outbox {
     /// Room for the text of an answer.
     pub text: AnswerText,
     pub(crate) why: ReasonsText,
-    pub(crate) object: JsonText,
+    /// Room for an object of JSON.
+    pub object: JsonText,
 }
 
 impl Outbox {
@@ -100,7 +101,7 @@ impl Outbox {
         self.text.push_str(before);
         push_number(&mut self.text, number);
         self.text.push_str(behind);
-        self.put_lines();
+        self.put_piece();
     }
 
     /// Adds a line with this text.
@@ -130,6 +131,16 @@ impl Outbox {
         push_line(&mut self.bytes, self.object.as_str().as_bytes());
     }
 
+    /// Adds the object that stands in its room, and no line's end.
+    pub fn put_object_piece(&mut self)
+        requires { length self.old.bytes.items + length self.old.object.bytes ≤ ROOM }
+        ensures { self.new.bytes.items ≡ self.old.bytes.items ++ self.old.object.bytes }
+    {
+        self.bytes
+            .try_extend_from_slice(self.object.as_str().as_bytes())
+            .unwrap();
+    }
+
     /// Adds a line with the members of the object that stands in its room: the object without its first byte, a brace.
     pub(crate) fn put_members(&mut self)
         requires room { HasRoom self.old }
@@ -140,8 +151,8 @@ impl Outbox {
         push_line(&mut self.bytes, object.get(1..).unwrap_or(&[]));
     }
 
-    /// Adds the lines that stand in its room, each with its line feed.
-    pub(crate) fn put_lines(&mut self)
+    /// Adds the text that stands in its room, and no line's end.
+    pub fn put_piece(&mut self)
         requires { length self.old.bytes.items + ANSWER_ROOM ≤ ROOM }
         ensures { self.new.bytes.items ≡ self.old.bytes.items ++ self.old.text.bytes }
     {

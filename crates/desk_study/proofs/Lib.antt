@@ -1,3 +1,4 @@
-pub mod PutLemmas
-pub mod ShapeLemmas
+pub mod ListedLemmas
+pub mod FaultLemmas
+pub mod FindingLemmas
 pub mod QuestionLemmas

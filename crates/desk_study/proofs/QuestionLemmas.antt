@@ -21,7 +21,8 @@ use Rattle.desk_lines.specs.declared.line_kind.LineKind.TheVariants.{NoRecord, R
 use Rattle.desk_lines.specs.declared.report.DeskReport.{DeskReport}
 use Rattle.desk_lines.proofs.AnswerLemmas.{same_as_told}
 use Rattle.desk_lines.proofs.TellingLemmas.{report_of_more}
-use Rattle.desk_study.specs.Answers.{line_front, question_answer, question_answers, question_kind, question_kinds, studied, studied_kind, number_asked}
+use Rattle.desk_study.specs.Answers.{question_answer, question_answers, question_kind, question_kinds, studied, studied_kind, number_asked}
+use Rattle.desk_study.specs.declared.form.StudiesManner.{StudiesManner}
 use Rattle.desk_study.specs.Tellers.{HasAnswered}
 use Rattle.desk_study.specs.declared.questions.Questions.{Questions}
 
@@ -38,18 +39,18 @@ no_rules t = elim t as (λ v. (v && false) ≡ false) [ Rattle.std.proofs.Common
 names_none : (number : ℕ) (line : List ℕ) → 4096 < length line → ((number == 1) && is_some (profile_of line)) ≡ false
 names_none number line long = ap (λ (p : Option Rules). (number == 1) && is_some p) (long_profile line long) ∙ no_rules (number == 1)
 
-long_answer : (is_numbered : Bool) (number : ℕ) (line : List ℕ) → 4096 < length line → question_answer is_numbered number line ≡ studied (line_front (number_asked is_numbered number)) (Err (Line H1))
+long_answer : (manner : StudiesManner) (number : ℕ) (line : List ℕ) → 4096 < length line → question_answer manner number line ≡ studied manner.form (number_asked manner.is_numbered number) (Err (Line H1))
 unfolding question_answer
-long_answer is_numbered number line long =
-    let front = line_front (number_asked is_numbered number) in
-    ap (λ t. if t then None else studied front (study_of line)) (names_none number line long) ∙ ap (studied front) (long_study line long)
+long_answer manner number line long =
+    let told = studied manner.form (number_asked manner.is_numbered number) in
+    ap (λ t. if t then None else told (study_of line)) (names_none number line long) ∙ ap told (long_study line long)
 
 long_kind : (number : ℕ) (line : List ℕ) → 4096 < length line → question_kind number line ≡ Refused
 unfolding question_kind
 long_kind number line long = ap (λ t. if t then NoRecord else studied_kind (study_of line)) (names_none number line long) ∙ ap studied_kind (long_study line long)
 
-answer_as_told : (is_numbered : Bool) (number : ℕ) (line next : List ℕ) → IsToldAs 4096 line next → question_answer is_numbered number line ≡ question_answer is_numbered number next
-answer_as_told is_numbered number line next as_this = same_as_told (question_answer is_numbered number) (long_answer is_numbered number) line next as_this
+answer_as_told : (manner : StudiesManner) (number : ℕ) (line next : List ℕ) → IsToldAs 4096 line next → question_answer manner number line ≡ question_answer manner number next
+answer_as_told manner number line next as_this = same_as_told (question_answer manner number) (long_answer manner number) line next as_this
 
 kind_as_told : (number : ℕ) (line next : List ℕ) → IsToldAs 4096 line next → question_kind number line ≡ question_kind number next
 kind_as_told number line next as_this = same_as_told (question_kind number) (long_kind number) line next as_this
@@ -65,14 +66,14 @@ one_before number count = omega arith
 length_more : (line : List ℕ) (lines : List (List ℕ)) → length (line ∷ lines) ≡ length lines + 1
 length_more line lines = omega arith
 
-answers_more : (is_numbered : Bool) (number : ℕ) (lines : List (List ℕ)) (next : List ℕ) → question_answers is_numbered number (lines ++ next ∷ []) ≡ question_answers is_numbered number lines ++ answers_in (question_answer is_numbered (number + length lines) next)
-answers_more is_numbered number [] next =
-    append-nil (answers_in (question_answer is_numbered number next)) ∙ ap (λ n. answers_in (question_answer is_numbered n next)) (none_before number)
-answers_more is_numbered number (line ∷ lines) next =
-    let first = answers_in (question_answer is_numbered number line) in
-    ap (λ (others : List (List ℕ)). first ++ others) (answers_more is_numbered (number + 1) lines next)
-    ∙ sym (append_assoc first (question_answers is_numbered (number + 1) lines) (answers_in (question_answer is_numbered (number + 1 + length lines) next)))
-    ∙ ap (λ n. (first ++ question_answers is_numbered (number + 1) lines) ++ answers_in (question_answer is_numbered n next)) (one_before number (length lines) ∙ ap (λ k. number + k) (sym (length_more line lines)))
+answers_more : (manner : StudiesManner) (number : ℕ) (lines : List (List ℕ)) (next : List ℕ) → question_answers manner number (lines ++ next ∷ []) ≡ question_answers manner number lines ++ answers_in (question_answer manner (number + length lines) next)
+answers_more manner number [] next =
+    append-nil (answers_in (question_answer manner number next)) ∙ ap (λ n. answers_in (question_answer manner n next)) (none_before number)
+answers_more manner number (line ∷ lines) next =
+    let first = answers_in (question_answer manner number line) in
+    ap (λ (others : List (List ℕ)). first ++ others) (answers_more manner (number + 1) lines next)
+    ∙ sym (append_assoc first (question_answers manner (number + 1) lines) (answers_in (question_answer manner (number + 1 + length lines) next)))
+    ∙ ap (λ n. (first ++ question_answers manner (number + 1) lines) ++ answers_in (question_answer manner n next)) (one_before number (length lines) ∙ ap (λ k. number + k) (sym (length_more line lines)))
 
 kinds_more : (number : ℕ) (lines : List (List ℕ)) (next : List ℕ) → question_kinds number (lines ++ next ∷ []) ≡ question_kinds number lines ++ question_kind (number + length lines) next ∷ []
 kinds_more number [] next = ap (λ n. question_kind n next ∷ []) (none_before number)
@@ -81,13 +82,13 @@ kinds_more number (line ∷ lines) next =
     ∙ ap (λ n. question_kind number line ∷ question_kinds (number + 1) lines ++ question_kind n next ∷ []) (one_before number (length lines) ∙ ap (λ k. number + k) (sym (length_more line lines)))
 
 pub tells_more : (first now : Questions) (number : ℕ) (line : List ℕ) (kind : LineKind) (lines told : List (List ℕ)) (report : DeskReport) (next : List ℕ) → kind ≡ question_kind number line → number ≡ length lines + 1 → IsToldAs 4096 line next
-    → HasAnswered first now lines told report → HasAnswered first now (lines ++ next ∷ []) (told ++ answers_in (question_answer now.is_numbered number line)) (report_with report kind)
+    → HasAnswered first now lines told report → HasAnswered first now (lines ++ next ∷ []) (told ++ answers_in (question_answer now.manner number line)) (report_with report kind)
 tells_more first now number line kind lines told report next kind_is counted as_this tells = record {
-  numbered = tells.numbered;
+  alike = tells.alike;
   answers_are =
-      ap (λ (t : List (List ℕ)). t ++ answers_in (question_answer now.is_numbered number line)) tells.answers_are
-      ∙ ap (λ (a : Option (List ℕ)). question_answers first.is_numbered 1 lines ++ answers_in a) (ap (λ b. question_answer b number line) tells.numbered ∙ answer_as_told first.is_numbered number line next as_this ∙ ap (λ n. question_answer first.is_numbered n next) number_is)
-      ∙ sym (answers_more first.is_numbered 1 lines next);
+      ap (λ (t : List (List ℕ)). t ++ answers_in (question_answer now.manner number line)) tells.answers_are
+      ∙ ap (λ (a : Option (List ℕ)). question_answers first.manner 1 lines ++ answers_in a) (ap (λ (m : StudiesManner). question_answer m number line) tells.alike ∙ answer_as_told first.manner number line next as_this ∙ ap (λ n. question_answer first.manner n next) number_is)
+      ∙ sym (answers_more first.manner 1 lines next);
   report_is =
       ap (λ (r : DeskReport). report_with r kind) tells.report_is
       ∙ ap (λ k. report_with (report_of (question_kinds 1 lines)) k) (kind_is ∙ kind_as_told number line next as_this ∙ ap (λ n. question_kind n next) number_is)

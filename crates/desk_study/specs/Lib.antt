@@ -1,2 +1,4 @@
+pub mod SafeObjects
+pub mod Objects
 pub mod Answers
 pub mod Tellers

@@ -7,6 +7,6 @@ use Rattle.desk_study.specs.declared.questions.Questions.{Questions}
 
 -- from the first state to the second these are the answers to these lines, counted so; the first line has the number 1
 pub record HasAnswered (first now : Questions) (lines answers : List (List ℕ)) (report : DeskReport) : Type 0 where
-  pub numbered : now.is_numbered ≡ first.is_numbered
-  pub answers_are : answers ≡ question_answers first.is_numbered 1 lines
+  pub alike : now.manner ≡ first.manner
+  pub answers_are : answers ≡ question_answers first.manner 1 lines
   pub report_is : report ≡ report_of (question_kinds 1 lines)

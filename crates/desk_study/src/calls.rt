@@ -1,83 +1,63 @@
 //! Answers to questions of calls.
-ghost use Rattle.std.specs.Prelude.{◌≡◌, ◌+◌, ◌*◌, ◌≤◌, ◌++◌, length};
-ghost use Rattle.std.specs.List.{flat_map};
-ghost use Rattle.riichi_shape.specs.EveryWinning.{shanten_of};
-ghost use Rattle.riichi_study.specs.Texts as lines;
-ghost use Rattle.riichi_study.specs.declared.study.Study.TheVariants as asks;
-ghost use Rattle.desk_lines.specs.Outbox.{HasRoomForLine, HasRoomForText};
-ghost use Rattle.desk_lines.specs.Telling.{text_of, with_line_feed};
+ghost use Rattle.std.specs.Prelude.{◌≡◌, ◌+◌, ◌≤◌, ◌++◌, length};
+ghost use Rattle.riichi_study.specs.Findings as found;
+ghost use Rattle.riichi_study.specs.Texts.{IsShanten};
 ghost use Rattle.desk_study.specs.Answers as spec;
 
-use crate::puts::begin;
+use crate::form::StudiesForm;
+use crate::members::put_calls_members;
+use crate::plain::{MOST_CALLS_TEXT, put_calls_text};
+use crate::reasons::{MOST_CALLS_REASONS, put_calls_reasons};
 use desk_lines::Outbox;
 use riichi_deeper::{Call, calls, kong};
-use riichi_shape::{RowSource, ShapeAnswer, shape_with};
-use riichi_study::{CallRecord, push_call, push_calls, push_kong};
-use riichi_text::ANSWER_ROOM;
+use riichi_shape::{RowSource, ShapeAnswer, shanten_with};
+use riichi_study::CallRecord;
 use riichi_tiles::Kind;
 
-/// The bytes of a line.
-const MOST_BELOW: usize = ANSWER_ROOM + "\n".len();
+/// The bytes of the longest answer to a question of calls, its line with lines in words.
+const MOST_ANSWER: usize = MOST_CALLS_TEXT + MOST_CALLS_REASONS;
 
-/// Puts the calls that bring a hand nearer, and below them what each leads to, and a kong.
+/// Puts the calls that bring a hand nearer with what each leads to, and a kong.
 pub(crate) fn put_calls<S: RowSource>(
-    front: Option<u64>,
+    form: StudiesForm,
     asked: &CallRecord,
     outbox: &mut Outbox,
     source: &mut S,
 )
-    requires { HasRoomForLine outbox.old }
-    ensures { outbox.new.bytes.items ≡ outbox.old.bytes.items
-        ++ (spec.line_front front ++ text_of (lines.study_lines (asks.Calls asked.now))) }
+    requires { spec.HasRoomFor MOST_ANSWER outbox.old }
+    ensures bytes { outbox.new.bytes.items ≡ outbox.old.bytes.items
+        ++ spec.told_in form (found.calls_finding asked.now) }
+    ensures room { length outbox.new.bytes.items ≤ length outbox.old.bytes.items + MOST_ANSWER }
 {
     let hand = asked.hand();
     let thrown = asked.thrown();
+    let shanten = shanten_with(source, &hand.tiles(), &hand.melds());
     let found = calls(source, &hand, &thrown);
-    begin(front, &mut outbox.text);
-    push_calls(&mut outbox.text, &found);
-    outbox.put_text();
-    put_found(shape_with(source, &hand).shanten, &found, outbox);
-    put_kong(thrown.tile, &kong(source, &hand, thrown.tile), outbox);
+    let led = kong(source, &hand, thrown.tile);
+    put_found(form, shanten, thrown.tile, &found, &led, outbox);
 }
 
-/// Puts a line for each call.
-fn put_found(shanten: i8, found: &[Option<Call>], outbox: &mut Outbox)
-    requires shanten { lines.IsShanten shanten }
-    requires room { spec.HasRoomFor (length found.now * MOST_BELOW) outbox.old }
-    ensures put { outbox.new.bytes.items
-        ≡ outbox.old.bytes.items ++ flat_map (spec.found_line shanten) found.now }
-    ensures room { length outbox.new.bytes.items
-        ≤ length outbox.old.bytes.items + length found.now * MOST_BELOW }
+/// Puts these calls of a tile by a hand of this shanten, and a kong.
+fn put_found(
+    form: StudiesForm,
+    shanten: i8,
+    tile: Kind,
+    calls: &[Option<Call>; 4],
+    kong: &Option<ShapeAnswer>,
+    outbox: &mut Outbox,
+)
+    requires shanten { IsShanten shanten }
+    requires room { spec.HasRoomFor MOST_ANSWER outbox.old }
+    ensures bytes { outbox.new.bytes.items ≡ outbox.old.bytes.items
+        ++ spec.told_in form (found.Calls shanten tile calls.now kong.now) }
+    ensures room { length outbox.new.bytes.items ≤ length outbox.old.bytes.items + MOST_ANSWER }
 {
-    for call in found {
-        put_call(shanten, call, outbox);
-    }
-}
-
-/// Puts the line of a call, where there is one.
-fn put_call(shanten: i8, call: &Option<Call>, outbox: &mut Outbox)
-    requires shanten { lines.IsShanten shanten }
-    requires room { spec.HasRoomFor MOST_BELOW outbox.old }
-    ensures put { outbox.new.bytes.items
-        ≡ outbox.old.bytes.items ++ spec.found_line shanten call.now }
-    ensures room { length outbox.new.bytes.items ≤ length outbox.old.bytes.items + MOST_BELOW }
-{
-    if let Some(call) = call {
-        outbox.text.clear();
-        push_call(&mut outbox.text, shanten, call);
-        outbox.put_text();
-    }
-}
-
-/// Puts the line of a kong, where there is one.
-fn put_kong(tile: Kind, answer: &Option<ShapeAnswer>, outbox: &mut Outbox)
-    requires { spec.HasRoomFor MOST_BELOW outbox.old }
-    ensures { outbox.new.bytes.items
-        ≡ outbox.old.bytes.items ++ text_of (lines.kong_lines tile answer.now) }
-{
-    if let Some(answer) = answer {
-        outbox.text.clear();
-        push_kong(&mut outbox.text, tile, answer);
-        outbox.put_text();
+    match form {
+        StudiesForm::Answers => put_calls_text(shanten, tile, calls, kong, outbox),
+        StudiesForm::Explained => {
+            put_calls_text(shanten, tile, calls, kong, outbox);
+            put_calls_reasons(tile, calls, kong, outbox);
+        }
+        StudiesForm::Objects => put_calls_members(shanten, tile, calls, kong, outbox),
     }
 }

@@ -2,23 +2,33 @@
 //!
 //! [`study_text`] answers the lines that a `desk_io::Source` gives, and writes the answers into a `desk_io::Sink`. It returns a
 //! `DeskReport` of how many were answered and how many refused, or the `DeskFault` for which it gave up. A line asks what
-//! `riichi_study` reads of it: of a shape what stands beyond its next step, or which calls of a thrown tile bring a hand nearer. An
-//! answer is a line, and below it further ones that begin with two spaces. [`Questions`] is the `desk_lines::Teller` of such a text.
-//! No call takes memory. docs/NOTATION.md has the lines and the answers.
+//! `riichi_study` reads of it: of a shape what stands beyond its next step, or which calls of a thrown tile bring a hand nearer. The
+//! [`StudiesManner`] says in which [`StudiesForm`]: as a line, as a line with lines in words below it, or as an object of JSON. Each
+//! is put in pieces, since an answer may be longer than the room of one text. [`Questions`] is the `desk_lines::Teller` of such a
+//! text. No call takes memory. docs/NOTATION.md has the lines and the answers.
 //!
 //! ```text
 //! let mut reader = FromReader::new(rt.reader());
 //! let mut writer = ToWriter::new(io::writer(&rt));
-//! let report = study_text(false, &mut reader, &mut writer)?;
+//! let manner = StudiesManner { form: StudiesForm::Answers, is_numbered: false };
+//! let report = study_text(&mut SuitMemo::in_value(), manner, &mut reader, &mut writer)?;
 //! ```
 #![tactic(auto)]
 
 mod calls;
+mod form;
+mod members;
+mod objects;
+mod plain;
 mod puts;
 mod questions;
+mod reasons;
+mod safe;
+mod safe_objects;
 mod shapes;
 mod text;
 
 pub use desk_lines::{DeskFault, DeskReport};
+pub use form::{StudiesForm, StudiesManner};
 pub use questions::Questions;
 pub use text::study_text;

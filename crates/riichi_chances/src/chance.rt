@@ -8,8 +8,8 @@ ghost use Rattle.riichi_chances.specs.Draws as spec;
 use crate::counting::{Aim, counts};
 use crate::goal::Goal;
 use crate::span::Span;
-use crate::tiles::discarded;
 use crate::unseen::unseen;
+use riichi_deeper::without_tile;
 use riichi_hand::ShapeRecord;
 use riichi_shape::RowSource;
 use riichi_tiles::Kind;
@@ -58,5 +58,5 @@ pub fn chance_without<R: RowSource>(
     ensures at_most_one { result.reached ≤ result.all }
     ensures stays { source.new ≡ source.old }
 {
-    chance_of(source, &discarded(asked, kind), goal, turns)
+    chance_of(source, &without_tile(asked, kind), goal, turns)
 }

@@ -8,7 +8,8 @@ ghost use Rattle.riichi_chances.specs.Aims as spec;
 
 use crate::goal::Goal;
 use crate::span::{ByTurns, Span, add_times, keep_greater};
-use crate::tiles::{with_tile, without_tile};
+use crate::tiles::best_discarded;
+use riichi_deeper::with_tile;
 use riichi_hand::ShapeRecord;
 use riichi_shape::{Accepts, DiscardList, LiveList, RowSource, shape_with};
 use riichi_tiles::Kind;
@@ -135,7 +136,7 @@ fn best_rest<R: RowSource>(
     for place in 0..discards.len() {
         match discards.short_at(place) {
             Some(discard) => {
-                let rest = without_tile(drawn, discard.kind);
+                let rest = best_discarded(drawn, discard.kind);
                 keep_greater(&mut best, &counts(source, &rest, aim));
             }
             None => unreachable!(),

@@ -16,7 +16,7 @@ pub fn is_left(asked: &ShapeRecord, kind: Kind) -> bool
 }
 
 /// The hand of fourteen tiles once a tile has come to it.
-pub(crate) fn with_tile(asked: &ShapeRecord, kind: Kind) -> ShapeRecord
+pub fn with_tile(asked: &ShapeRecord, kind: Kind) -> ShapeRecord
     requires thirteen { is_thirteen asked.now.tiles asked.now.melds ≡ true }
     requires left { copies_with asked.now kind < 4 }
     ensures value { result ≡ spec.parts_with asked.now kind }
@@ -33,8 +33,8 @@ pub(crate) fn with_tile(asked: &ShapeRecord, kind: Kind) -> ShapeRecord
     }
 }
 
-/// The hand of thirteen tiles after a discard.
-pub(crate) fn without_tile(asked: &ShapeRecord, kind: Kind) -> ShapeRecord
+/// The hand of thirteen tiles after a discard, which is seen from then on.
+pub fn without_tile(asked: &ShapeRecord, kind: Kind) -> ShapeRecord
     requires fourteen { size asked.now.tiles asked.now.melds ≡ 14 }
     requires held { 0 < slice_index asked.now.tiles kind }
     ensures value { result ≡ spec.parts_without asked.now kind }

@@ -23,7 +23,7 @@ mod nearer;
 mod outlook;
 mod thrown;
 
-pub use drawn::is_left;
+pub use drawn::{is_left, with_tile, without_tile};
 pub use gains::{Call, calls, kong};
 pub use outlook::{LEAST_GOOD, Outlook, deeper, deeper_without};
 pub use thrown::{Claim, Thrower, Thrown};

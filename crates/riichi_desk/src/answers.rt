@@ -156,9 +156,11 @@ fn answer_request<'a, R: Input + Print + Eprint + Files + Clock + Threads + Sync
         Request::Lines { lines, manner, .. } => {
             answer_lines(rt, notes, progress, terminals, *lines, *manner)
         }
-        Request::Study { lines, is_numbered } => {
-            answer_studies(rt, notes, progress, *lines, *is_numbered)
-        }
+        Request::Study {
+            lines,
+            form,
+            is_numbered,
+        } => answer_studies(rt, notes, progress, *lines, *form, *is_numbered),
         Request::HelpCodes => print_codes(rt, notes),
         Request::HelpRules => print_rules(rt, notes),
         Request::HelpYaku => print_yaku(rt, notes),

@@ -59,4 +59,6 @@ pub use riichi_rows::{
     SuitRow, join_rows, suit_row,
 };
 pub use shape_answer::ShapeAnswer;
-pub use text::{MOST_SHAPE, push_shape, shape_text};
+pub use text::{
+    MOST_ACCEPTED, MOST_DISCARD, MOST_SHAPE, push_accepted, push_discard, push_shape, shape_text,
+};

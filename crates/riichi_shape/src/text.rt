@@ -25,9 +25,11 @@ const MOST_PAIR: usize = " 1m:4".len();
 
 const MOST_PAIRS: usize = 34 * MOST_PAIR;
 
-const MOST_ACCEPTED: usize = " accepts".len() + MOST_PAIRS + " live ".len() + MOST_U32;
+/// The bytes of the longest list of accepted kinds.
+pub const MOST_ACCEPTED: usize = " accepts".len() + MOST_PAIRS + " live ".len() + MOST_U32;
 
-const MOST_DISCARD: usize = " discard 1m".len() + MOST_ACCEPTED;
+/// The bytes of the longest discard, with what the hand then accepts.
+pub const MOST_DISCARD: usize = " discard 1m".len() + MOST_ACCEPTED;
 
 /// Fourteen discards are longer than what one hand accepts.
 const MOST_ACCEPTS: usize = 14 * MOST_DISCARD;
@@ -66,7 +68,7 @@ fn push_pairs(text: &mut AnswerText, copies: &[u8; 34])
 
 /// Writes the kinds of a list, or a dash, and how many tiles are live in all.
 #[tactic(auto, unfolding(crate::specs::Text::list_text))]
-fn push_accepted(text: &mut AnswerText, list: &LiveList)
+pub fn push_accepted(text: &mut AnswerText, list: &LiveList)
     requires { array_string_len text.old + MOST_ACCEPTED ≤ ANSWER_ROOM }
     ensures bytes { text.new.bytes ≡ text.old.bytes ++ spec.list_text list.now }
     ensures len { array_string_len text.new ≤ array_string_len text.old + MOST_ACCEPTED }
@@ -82,8 +84,9 @@ fn push_accepted(text: &mut AnswerText, list: &LiveList)
     push_number(text, live);
 }
 
+/// Writes a discard, and what the hand then accepts.
 #[tactic(auto, unfolding(crate::specs::Text::discard_text))]
-fn push_discard(text: &mut AnswerText, discard: &Discard)
+pub fn push_discard(text: &mut AnswerText, discard: &Discard)
     requires { array_string_len text.old + MOST_DISCARD ≤ ANSWER_ROOM }
     ensures bytes { text.new.bytes ≡ text.old.bytes ++ spec.discard_text discard.now }
     ensures len { array_string_len text.new ≤ array_string_len text.old + MOST_DISCARD }

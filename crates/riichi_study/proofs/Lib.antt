@@ -1,1 +1,3 @@
 pub mod ProspectLemmas
+pub mod ChoiceLemmas
+pub mod SafeTextLemmas

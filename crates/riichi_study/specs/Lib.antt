@@ -4,4 +4,8 @@ pub mod CallParts
 pub mod Records
 pub mod Lines
 pub mod Prospects
+pub mod Findings
+pub mod SafeTexts
 pub mod Texts
+pub mod SafeReasons
+pub mod Reasons

@@ -1,5 +1,5 @@
 -- What a study line asks.
-use Rattle.std.specs.Prelude.{ℕ, ◌==◌, List, [], ◌∷◌, ◌++◌, length, Bool, true, false, Option, None, Some, Result, Ok, Err, codes, nat_lt, ok_or, if◌then◌else◌}
+use Rattle.std.specs.Prelude.{ℕ, ◌==◌, List, [], ◌∷◌, ◌++◌, length, Bool, false, Option, None, Some, Result, Ok, Err, codes, nat_lt, ok_or, replicate, if◌then◌else◌}
 use Rattle.std.specs.List.{list_any}
 use Rattle.riichi_hand.specs.declared.fault.LineCode.TheVariants.{H1, H2, H4, H6}
 use Rattle.riichi_hand.specs.declared.fault.LineFault.{LineFault}
@@ -11,16 +11,19 @@ use Rattle.riichi_hand.specs.Lines.{is_other_byte, outcome_of}
 use Rattle.riichi_hand.specs.Rules.{first_profile}
 use Rattle.riichi_hand.specs.Words.{words_of}
 use Rattle.riichi_deeper.specs.declared.thrown.Thrower.{Thrower}
+use Rattle.riichi_safe.specs.Records.{safe_record_of}
+use Rattle.riichi_safe.specs.SafeParts.{SafeParts}
+use Rattle.riichi_study.specs.declared.key.StudyKey.{StudyKey}
 use Rattle.riichi_study.specs.declared.key.StudyKey.TheVariants as keys
 use Rattle.riichi_study.specs.declared.name.StudyName.{StudyName}
-use Rattle.riichi_study.specs.declared.name.StudyName.TheVariants.{Shape, Calls}
+use Rattle.riichi_study.specs.declared.name.StudyName.TheVariants.{Shape, Calls, Safe}
 use Rattle.riichi_study.specs.declared.order.Order.{Order}
 use Rattle.riichi_study.specs.declared.order.Order.TheVariants.{Live}
 use Rattle.riichi_study.specs.declared.study.Study.{Study}
 use Rattle.riichi_study.specs.declared.study.Study.TheVariants as asks
 use Rattle.riichi_study.specs.CallParts.{CallParts}
 use Rattle.riichi_study.specs.Records.{call_record_of}
-use Rattle.riichi_study.specs.Values.{order_of, thrower_of, tile_named}
+use Rattle.riichi_study.specs.Values.{order_of, thrower_of, tile_named, tiles_named}
 use Rattle.riichi_study.specs.Words.{only_of, shape_words, own_values, space_before_each, study_named}
 
 -- what comes behind a value that has no fault
@@ -62,6 +65,10 @@ tile_asked words = then_read (only_of (own_values keys.Tile words)) (value_or (E
 unfoldable pub from_asked : List (List ℕ) → Result Thrower LineFault
 from_asked words = then_read (only_of (own_values keys.From words)) (value_or (Err (Line H6)) thrower_of)
 
+-- no tiles, where none are said
+unfoldable pub tiles_asked : StudyKey → List (List ℕ) → Result (List ℕ) LineFault
+tiles_asked key words = then_read (only_of (own_values key words)) (value_or (Ok (replicate 34 0)) tiles_named)
+
 -- ---- the line
 
 abbrev pub call_parts : ShapeParts → ℕ → Thrower → CallParts
@@ -76,10 +83,19 @@ calls_asked words =
     then_read (hand_asked Calls words) (λ hand. then_read (tile_asked words) (λ tile. then_read (from_asked words) (λ by.
     then_read (call_record_of (call_parts hand tile by)) (λ parts. Ok (Some (asks.Calls parts))))))
 
+abbrev pub safe_parts : ShapeParts → List ℕ → List ℕ → List ℕ → SafeParts
+safe_parts hand own thrown since = record { hand = hand; own = own; thrown = thrown; since = since }
+
+unfoldable pub safe_asked : List (List ℕ) → Result (Option Study) LineFault
+safe_asked words =
+    then_read (hand_asked Safe words) (λ hand. then_read (tiles_asked keys.Own words) (λ own. then_read (tiles_asked keys.Thrown words) (λ thrown. then_read (tiles_asked keys.Since words) (λ since.
+    then_read (safe_record_of (safe_parts hand own thrown since)) (λ parts. Ok (Some (asks.Safe parts)))))))
+
 abbrev pub job_asked : Option StudyName → List (List ℕ) → Result (Option Study) LineFault
 job_asked None words = Err (Line H2)
 job_asked (Some Shape) words = shape_asked words
 job_asked (Some Calls) words = calls_asked words
+job_asked (Some Safe) words = safe_asked words
 
 -- no word asks nothing; a byte that isn't printable is a fault before each other
 abbrev pub line_asked : Bool → List (List ℕ) → Result (Option Study) LineFault

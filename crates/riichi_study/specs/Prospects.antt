@@ -1,5 +1,5 @@
 -- The best discards of a hand with what stands beyond the next step, in an order.
-use Rattle.std.specs.Prelude.{ℕ, Bool, true, nat_le, List, [], ◌∷◌, map, Option, Some, None}
+use Rattle.std.specs.Prelude.{ℕ, Bool, true, nat_le, List, [], ◌∷◌, map, Option, Some, None, codes}
 use Rattle.riichi_hand.specs.HandParts.{ShapeParts}
 use Rattle.riichi_shape.specs.Discards.{discards_of, inserted_by}
 use Rattle.riichi_shape.specs.declared.discard.Discard.{Discard}
@@ -31,6 +31,16 @@ ordered_by key (discard ∷ rest) = inserted_by key discard (ordered_by key rest
 -- the best discards of a hand
 unfoldable pub ordered_discards : ShapeParts → Order → List Discard
 ordered_discards parts order = ordered_by (figure parts order) (discards_of parts.tiles parts.melds parts.seen)
+
+-- the best discards of a hand in an order, each with what stands beyond
+abbrev pub prospects_of : ShapeParts → Order → List Prospect
+prospects_of parts order = map (prospect_of parts) (ordered_discards parts order)
+
+-- the word of an order, as a line says it
+abbrev pub order_word : Order → List ℕ
+order_word Live = codes "live"
+order_word Second = codes "second"
+order_word Good = codes "good"
 
 -- ---- as they are kept
 

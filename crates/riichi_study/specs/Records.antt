@@ -1,5 +1,5 @@
 -- What must be true of a hand and a thrown tile whose calls are asked.
-use Rattle.std.specs.Prelude.{◌≡◌, List, [], ◌∷◌, not, Option, None, Result, nat_lt, if◌then◌else◌}
+use Rattle.std.specs.Prelude.{◌≡◌, List, [], ◌∷◌, not, Option, None, Result, nat_lt}
 use Rattle.riichi_hand.specs.declared.fault.LineCode.TheVariants.{H8, H9}
 use Rattle.riichi_hand.specs.declared.fault.LineFault.{LineFault}
 use Rattle.riichi_hand.specs.Faults.{coded, fault_or, first_fault}

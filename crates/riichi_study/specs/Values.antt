@@ -1,5 +1,5 @@
 -- What the values of a study line's own keys say.
-use Rattle.std.specs.Prelude.{ℕ, List, [], ◌∷◌, Option, None, Result, Ok, Err, codes}
+use Rattle.std.specs.Prelude.{ℕ, List, [], ◌∷◌, Option, None, Some, Result, Ok, Err, codes}
 use Rattle.riichi_tiles.specs.Notation.{reading_of}
 use Rattle.riichi_tiles.specs.declared.notation.NotationFault.{NotationFault}
 use Rattle.riichi_hand.specs.Texts.{only_kind}
@@ -14,6 +14,14 @@ order_of value = value_beside ((codes "live", Live) ∷ (codes "second", Second)
 
 abbrev pub thrower_of : List ℕ → Option Thrower
 thrower_of value = value_beside ((codes "left", Left) ∷ (codes "across", Across) ∷ (codes "right", Right) ∷ []) value
+
+abbrev pub spelled : Result (List ℕ) NotationFault → Option (List ℕ)
+spelled (Ok counts) = Some counts
+spelled (Err fault) = None
+
+-- the tiles that a text spells
+unfoldable pub tiles_named : List ℕ → Option (List ℕ)
+tiles_named value = spelled (reading_of value)
 
 abbrev pub only_tile : Result (List ℕ) NotationFault → Option ℕ
 only_tile (Ok counts) = only_kind counts

@@ -1,5 +1,5 @@
 -- The words of a study line: those with a key of its own, and the others.
-use Rattle.std.specs.Prelude.{◌≡◌, ℕ, List, [], ◌∷◌, ◌++◌, Bool, not, Option, None, Some, Result, Ok, Err, codes, is_some, if◌then◌else◌, option_map, filter}
+use Rattle.std.specs.Prelude.{ℕ, List, [], ◌∷◌, Bool, not, Option, None, Some, Result, Ok, Err, codes, is_some, if◌then◌else◌, filter}
 use Rattle.std.specs.List.{filter_map, flat_map, list_any}
 use Rattle.std.specs.Str.{bytes_eq}
 use Rattle.riichi_hand.specs.declared.fault.LineCode.TheVariants.{H5}
@@ -8,22 +8,26 @@ use Rattle.riichi_hand.specs.declared.fault.LineFault.TheVariants.{Line}
 use Rattle.riichi_hand.specs.Entries.{cut_at_equals}
 use Rattle.riichi_hand.specs.Values.{value_beside}
 use Rattle.riichi_study.specs.declared.key.StudyKey.{StudyKey}
-use Rattle.riichi_study.specs.declared.key.StudyKey.TheVariants.{Order, Tile, From}
+use Rattle.riichi_study.specs.declared.key.StudyKey.TheVariants.{Order, Tile, From, Own, Thrown, Since}
 use Rattle.riichi_study.specs.declared.name.StudyName.{StudyName}
-use Rattle.riichi_study.specs.declared.name.StudyName.TheVariants.{Shape, Calls}
+use Rattle.riichi_study.specs.declared.name.StudyName.TheVariants.{Shape, Calls, Safe}
 
 abbrev pub study_named : List ℕ → Option StudyName
-study_named word = value_beside ((codes "shape", Shape) ∷ (codes "calls", Calls) ∷ []) word
+study_named word = value_beside ((codes "shape", Shape) ∷ (codes "calls", Calls) ∷ (codes "safe", Safe) ∷ []) word
 
 abbrev pub key_word : StudyKey → List ℕ
 key_word Order = codes "order"
 key_word Tile = codes "tile"
 key_word From = codes "from"
+key_word Own = codes "own"
+key_word Thrown = codes "thrown"
+key_word Since = codes "since"
 
 -- the keys that a line of a job has beside those of a shape line
 abbrev pub own_keys : StudyName → List StudyKey
 own_keys Shape = Order ∷ []
 own_keys Calls = Tile ∷ From ∷ []
+own_keys Safe = Own ∷ Thrown ∷ Since ∷ []
 
 abbrev pub value_cut : StudyKey → Option (List ℕ × List ℕ) → Option (List ℕ)
 value_cut key None = None

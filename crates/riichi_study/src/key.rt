@@ -10,6 +10,12 @@ pub enum StudyKey {
     Tile,
     /// Who has thrown it.
     From,
+    /// What the player of the hand has thrown.
+    Own,
+    /// What a threatening player has thrown.
+    Thrown,
+    /// What all others have thrown since that player's riichi.
+    Since,
 }
 
 impl StudyKey {
@@ -23,6 +29,9 @@ impl StudyKey {
             StudyKey::Order => "order",
             StudyKey::Tile => "tile",
             StudyKey::From => "from",
+            StudyKey::Own => "own",
+            StudyKey::Thrown => "thrown",
+            StudyKey::Since => "since",
         }
     }
 }

@@ -1,4 +1,14 @@
-//! Questions of a player or a trainer, a line each.
+//! Questions of a player or a trainer, a line each, and what their answers are made of.
+//!
+//! [`read_study`] reads a line: a [`Study`], nothing, or the line's first fault. A shape is asked with the [`Order`] of its best
+//! discards, calls with the tile that another player has thrown, as a [`CallRecord`].
+//!
+//! [`prospects`] are the best discards of fourteen tiles in an order, each with what stands beyond it; the rest of an answer
+//! `riichi_shape` and `riichi_deeper` find. It is written in pieces, each behind what a text holds: [`push_shanten`] and
+//! [`push_hand`] or [`push_prospect`] of a shape, [`push_calls`], [`push_call`] and [`push_kong`] of calls. The same in words are
+//! [`push_hand_reason`] and its neighbours, lines that begin with two spaces. docs/NOTATION.md has the lines and the answers.
+//!
+//! No call takes memory.
 #![tactic(auto)]
 
 mod call_record;
@@ -7,6 +17,9 @@ mod name;
 mod order;
 mod prospect;
 mod reading;
+mod reasons;
+mod safe_reasons;
+mod safe_text;
 mod study;
 mod text;
 mod values;
@@ -18,8 +31,17 @@ pub use name::StudyName;
 pub use order::Order;
 pub use prospect::{MOST_PROSPECTS, Prospect, Prospects, prospects};
 pub use reading::read_study;
+pub use reasons::{
+    MOST_CALL_REASON, MOST_KONG_REASON, MOST_NONE_REASON, MOST_REASON, push_call_reason,
+    push_hand_reason, push_kong_reason, push_none_reason, push_prospect_reason,
+};
+pub use safe_reasons::{
+    MOST_FURITEN_REASON, MOST_PASSED_REASON, MOST_RISK_REASON, push_furiten_reason,
+    push_passed_reason, push_risk_reason,
+};
+pub use safe_text::{MOST_SAFE, has_two_sided, is_risk, push_neighbours, push_safe, state_word};
 pub use study::Study;
 pub use text::{
-    MOST_CALL, MOST_CALLS, MOST_OUTLOOK, push_call, push_calls, push_discard_outlook,
-    push_hand_outlook, push_kong,
+    MOST_CALL, MOST_CALLS, MOST_HAND, MOST_PROSPECT, MOST_SHANTEN, push_call, push_calls,
+    push_hand, push_kong, push_prospect, push_shanten,
 };

@@ -12,6 +12,8 @@ pub enum StudyName {
     Shape,
     /// Which calls of a thrown tile bring a hand nearer.
     Calls,
+    /// On which tiles of a hand a threatening player can't win, and whether the hand is furiten.
+    Safe,
 }
 
 impl StudyName {
@@ -21,6 +23,7 @@ impl StudyName {
         match word {
             b"shape" => Some(StudyName::Shape),
             b"calls" => Some(StudyName::Calls),
+            b"safe" => Some(StudyName::Safe),
             _ => None,
         }
     }
@@ -34,6 +37,11 @@ impl StudyName {
             StudyName::Calls => {
                 own_value(StudyKey::Tile, word).is_some()
                     || own_value(StudyKey::From, word).is_some()
+            }
+            StudyName::Safe => {
+                own_value(StudyKey::Own, word).is_some()
+                    || own_value(StudyKey::Thrown, word).is_some()
+                    || own_value(StudyKey::Since, word).is_some()
             }
         }
     }

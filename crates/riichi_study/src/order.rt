@@ -13,7 +13,19 @@ pub enum Order {
 }
 
 impl Order {
+    ghost use Rattle.riichi_study.specs.Prospects.{order_word};
     ghost use Rattle.riichi_study.specs.Values.{order_of};
+
+    /// Its word, as a line says it.
+    pub fn word(self) -> &'static str
+        ensures { result.now ≡ order_word self }
+    {
+        match self {
+            Order::Live => "live",
+            Order::Second => "second",
+            Order::Good => "good",
+        }
+    }
 
     pub(crate) fn read(value: &[u8]) -> Option<Order>
         ensures { result ≡ order_of value.now }

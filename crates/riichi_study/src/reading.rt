@@ -11,13 +11,14 @@ use crate::key::StudyKey;
 use crate::name::StudyName;
 use crate::order::Order;
 use crate::study::Study;
-use crate::values::{read_thrower, read_tile};
+use crate::values::{read_thrower, read_tile, read_tiles};
 use crate::words::{LineRoom, only_value, push_others};
 use riichi_deeper::{Thrower, Thrown};
 use riichi_hand::{
     Job, LineCode, LineFault, MOST_LINE, Rules, ShapeRecord, has_other_byte, next_word, read_line,
 };
-use riichi_tiles::Kind;
+use riichi_safe::SafeRecord;
+use riichi_tiles::{Counts, Kind};
 
 /// The question of a line, `None` for a comment or a line of spaces alone or nothing, or the line's first fault. The line comes
 /// without the line feed and the carriage return that ended it.
@@ -40,6 +41,7 @@ pub fn read_study(line: &[u8]) -> Result<Option<Study>, LineFault>
     match StudyName::read(word) {
         Some(StudyName::Shape) => read_shape(words),
         Some(StudyName::Calls) => read_calls(words),
+        Some(StudyName::Safe) => read_safe(words),
         None => Err(LineFault::Line(LineCode::H2)),
     }
 }
@@ -66,6 +68,20 @@ fn read_calls(words: &[u8]) -> Result<Option<Study>, LineFault>
     let by = read_from(words)?;
     let asked = CallRecord::new(hand, Thrown { tile, by })?;
     Ok(Some(Study::Calls(asked)))
+}
+
+/// The question of the words of a line behind `safe`.
+#[tactic(auto, unfolding(crate::specs::Lines::safe_asked))]
+fn read_safe(words: &[u8]) -> Result<Option<Study>, LineFault>
+    requires { length words.now ≤ MOST_LINE }
+    ensures { result ≡ spec.safe_asked (words_of words.now) }
+{
+    let hand = read_hand(StudyName::Safe, words)?;
+    let own = read_list(StudyKey::Own, words)?;
+    let thrown = read_list(StudyKey::Thrown, words)?;
+    let since = read_list(StudyKey::Since, words)?;
+    let asked = SafeRecord::new(hand, own, thrown, since)?;
+    Ok(Some(Study::Safe(asked)))
 }
 
 /// The shape that the words spell which are not of the study line's own.
@@ -128,6 +144,17 @@ fn read_thrown(words: &[u8]) -> Result<Kind, LineFault>
     match only_value(StudyKey::Tile, words)? {
         None => Err(LineFault::Line(LineCode::H6)),
         Some(value) => read_tile(value).ok_or(LineFault::Line(LineCode::H4)),
+    }
+}
+
+/// The tiles of a key: none, where none are said.
+#[tactic(auto, unfolding(crate::specs::Lines::tiles_asked))]
+fn read_list(key: StudyKey, words: &[u8]) -> Result<Counts, LineFault>
+    ensures { result ≡ spec.tiles_asked key (words_of words.now) }
+{
+    match only_value(key, words)? {
+        None => Ok(Counts::new()),
+        Some(value) => read_tiles(value).ok_or(LineFault::Line(LineCode::H4)),
     }
 }
 

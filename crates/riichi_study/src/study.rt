@@ -2,6 +2,7 @@
 use crate::call_record::CallRecord;
 use crate::order::Order;
 use riichi_hand::ShapeRecord;
+use riichi_safe::SafeRecord;
 
 /// A question of a player or a trainer.
 #[derive(Clone, Copy, Debug, PartialEq, Eq)]
@@ -10,4 +11,6 @@ pub enum Study {
     Shape(ShapeRecord, Order),
     /// Which calls of this tile bring this hand nearer?
     Calls(CallRecord),
+    /// On which of these tiles can't a threatening player win, which two-sided waits on the others are gone, and is the hand furiten?
+    Safe(SafeRecord),
 }

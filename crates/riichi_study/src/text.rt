@@ -1,146 +1,128 @@
-//! The texts of the answers, a line each, without the line's end.
-ghost use Rattle.std.specs.Prelude.{◌≡◌, ◌+◌, ◌*◌, ◌≤◌, ◌++◌, length};
-ghost use Rattle.std.specs.List.{flat_map, list_any};
+//! The text of an answer, in pieces.
+ghost use Rattle.std.specs.Prelude.{◌≡◌, ◌+◌, ◌≤◌, ◌++◌, codes};
+ghost use Rattle.std.specs.List.{list_any};
 ghost use Rattle.arrayvec.specs.ArrayString.{array_string_len};
 ghost use Rattle.riichi_study.specs.Texts as spec;
 
+use crate::prospect::Prospect;
 use riichi_deeper::{Call, Outlook};
-use riichi_shape::{Accepts, MOST_SHAPE, ShapeAnswer, push_shape};
-use riichi_text::{
-    ANSWER_ROOM, AnswerText, MOST_MELD, MOST_U8, MOST_U32, push_kind, push_meld, push_number,
+use riichi_shape::{
+    Accepts, LiveList, MOST_ACCEPTED, MOST_DISCARD, MOST_SHAPE, ShapeAnswer, push_accepted,
+    push_discard, push_shape,
 };
+use riichi_text::{ANSWER_ROOM, AnswerText, MOST_I8, MOST_MELD, MOST_U8, push_meld, push_number};
 use riichi_tiles::{Kind, Meld};
 
 const MOST_U16: usize = "65535".len();
 
-const MOST_FIGURES: usize = "live ".len()
-    + MOST_U32
-    + " second ".len()
-    + MOST_U16
-    + " good ".len()
-    + MOST_U8;
+const MOST_FIGURES: usize = " second ".len() + MOST_U16 + " good ".len() + MOST_U8;
 
-/// The bytes of the longest line of an outlook.
-pub const MOST_OUTLOOK: usize = "  discard 1m ".len() + MOST_FIGURES;
+/// The bytes of the longest shanten.
+pub const MOST_SHANTEN: usize = "shanten ".len() + MOST_I8;
 
-const MOST_CALLED: usize = " ".len() + MOST_MELD;
+/// The bytes of what thirteen tiles accept, with their figures.
+pub const MOST_HAND: usize = MOST_ACCEPTED + MOST_FIGURES;
 
-/// The bytes of the longest line of all calls.
-pub const MOST_CALLS: usize = "calls none".len() + 4 * MOST_CALLED;
+/// The bytes of the longest discard, with its figures.
+pub const MOST_PROSPECT: usize = MOST_DISCARD + MOST_FIGURES;
 
-/// The bytes of the longest line of a call.
-pub const MOST_CALL: usize = "  ".len() + MOST_MELD + " ".len() + MOST_SHAPE;
+/// The bytes before the calls.
+pub const MOST_CALLS: usize = "calls none".len();
 
-/// Writes what stands beyond the next step, behind the live copies of what is accepted.
-fn push_figures(text: &mut AnswerText, live: u32, outlook: &Outlook)
+/// The bytes of the longest call.
+pub const MOST_CALL: usize = " ".len() + MOST_MELD + " ".len() + MOST_SHAPE;
+
+/// Writes the shanten of a hand.
+pub fn push_shanten(text: &mut AnswerText, shanten: i8)
+    requires { array_string_len text.old + MOST_SHANTEN ≤ ANSWER_ROOM }
+    ensures bytes { text.new.bytes ≡ text.old.bytes ++ spec.shanten_front shanten }
+    ensures len { array_string_len text.new ≤ array_string_len text.old + MOST_SHANTEN }
+{
+    text.push_str("shanten ");
+    push_number(text, shanten);
+}
+
+/// Writes what stands beyond the next step, where the hand isn't ready.
+fn push_figures(text: &mut AnswerText, outlook: &Option<Outlook>)
     requires { array_string_len text.old + MOST_FIGURES ≤ ANSWER_ROOM }
-    ensures bytes { text.new.bytes ≡ text.old.bytes ++ spec.figures_text live outlook.now }
+    ensures bytes { text.new.bytes ≡ text.old.bytes ++ spec.figures_text outlook.now }
     ensures len { array_string_len text.new ≤ array_string_len text.old + MOST_FIGURES }
 {
-    text.push_str("live ");
-    push_number(text, live);
-    text.push_str(" second ");
-    push_number(text, outlook.second);
-    text.push_str(" good ");
-    push_number(text, outlook.good);
-}
-
-/// Writes the line below a hand of thirteen tiles that isn't ready.
-pub fn push_hand_outlook(text: &mut AnswerText, live: u32, outlook: &Outlook)
-    requires { array_string_len text.old + MOST_OUTLOOK ≤ ANSWER_ROOM }
-    ensures bytes { text.new.bytes ≡ text.old.bytes ++ spec.hand_outlook_line live outlook.now }
-    ensures len { array_string_len text.new ≤ array_string_len text.old + MOST_OUTLOOK }
-{
-    text.push_str("  ");
-    push_figures(text, live, outlook);
-}
-
-/// Writes the line of a discard after which the hand isn't ready.
-pub fn push_discard_outlook(text: &mut AnswerText, kind: Kind, live: u32, outlook: &Outlook)
-    requires { array_string_len text.old + MOST_OUTLOOK ≤ ANSWER_ROOM }
-    ensures bytes { text.new.bytes ≡ text.old.bytes ++ spec.discard_line kind live outlook.now }
-    ensures len { array_string_len text.new ≤ array_string_len text.old + MOST_OUTLOOK }
-{
-    text.push_str("  discard ");
-    push_kind(text, kind);
-    text.push_str(" ");
-    push_figures(text, live, outlook);
-}
-
-/// Writes the meld of a call behind the others, where there is one.
-fn push_called(text: &mut AnswerText, call: &Option<Call>)
-    requires { array_string_len text.old + MOST_CALLED ≤ ANSWER_ROOM }
-    ensures bytes { text.new.bytes ≡ text.old.bytes ++ spec.called_text call.now }
-    ensures len { array_string_len text.new ≤ array_string_len text.old + MOST_CALLED }
-{
-    if let Some(call) = call {
-        text.push_str(" ");
-        push_meld(text, &call.meld);
+    if let Some(outlook) = outlook {
+        text.push_str(" second ");
+        push_number(text, outlook.second);
+        text.push_str(" good ");
+        push_number(text, outlook.good);
     }
 }
 
+/// Writes what thirteen tiles accept, with their figures.
+pub fn push_hand(text: &mut AnswerText, accepted: &LiveList, outlook: &Option<Outlook>)
+    requires { array_string_len text.old + MOST_HAND ≤ ANSWER_ROOM }
+    ensures bytes { text.new.bytes ≡ text.old.bytes ++ spec.thirteen_text accepted.now outlook.now }
+    ensures len { array_string_len text.new ≤ array_string_len text.old + MOST_HAND }
+{
+    push_accepted(text, accepted);
+    push_figures(text, outlook);
+}
+
+/// Writes a discard of fourteen tiles: what the hand then accepts, and the figures of what is then left.
+pub fn push_prospect(text: &mut AnswerText, prospect: &Prospect)
+    requires { array_string_len text.old + MOST_PROSPECT ≤ ANSWER_ROOM }
+    ensures bytes { text.new.bytes ≡ text.old.bytes ++ spec.prospect_text prospect.now }
+    ensures len { array_string_len text.new ≤ array_string_len text.old + MOST_PROSPECT }
+{
+    push_discard(text, &prospect.discard);
+    push_figures(text, &prospect.outlook);
+}
+
 /// Whether there is a call.
-fn has_call(calls: &[Option<Call>]) -> bool
+pub(crate) fn has_call(calls: &[Option<Call>]) -> bool
     ensures { result ≡ list_any spec.is_called calls.now }
 {
     calls.iter().any(|call| call.is_some())
 }
 
-/// Writes that there is no call, where there is none.
-fn push_none(text: &mut AnswerText, calls: &[Option<Call>])
-    requires { array_string_len text.old + 5 ≤ ANSWER_ROOM }
-    ensures bytes { text.new.bytes ≡ text.old.bytes ++ spec.none_text calls.now }
-    ensures len { array_string_len text.new ≤ array_string_len text.old + 5 }
+/// Writes what stands before the calls: that there is none, where there is none.
+pub fn push_calls(text: &mut AnswerText, calls: &[Option<Call>])
+    requires { array_string_len text.old + MOST_CALLS ≤ ANSWER_ROOM }
+    ensures bytes { text.new.bytes
+        ≡ text.old.bytes ++ (codes "calls" ++ spec.none_text calls.now) }
+    ensures len { array_string_len text.new ≤ array_string_len text.old + MOST_CALLS }
 {
+    text.push_str("calls");
     if !has_call(calls) {
         text.push_str(" none");
     }
 }
 
-/// Writes the meld of each call.
-fn push_melds(text: &mut AnswerText, calls: &[Option<Call>])
-    requires { array_string_len text.old + length calls.now * MOST_CALLED ≤ ANSWER_ROOM }
-    ensures { text.new.bytes ≡ text.old.bytes ++ flat_map spec.called_text calls.now }
+/// Writes a call that brings a hand of this shanten nearer, where there is one: how far it then is, and its best discards.
+pub fn push_call(text: &mut AnswerText, shanten: i8, call: &Option<Call>)
+    requires room { array_string_len text.old + MOST_CALL ≤ ANSWER_ROOM }
+    requires shanten { spec.IsShanten shanten }
+    ensures { text.new.bytes ≡ text.old.bytes ++ spec.call_text shanten call.now }
 {
-    for call in calls {
-        push_called(text, call);
+    if let Some(call) = call {
+        text.push_str(" ");
+        push_meld(text, &call.meld);
+        text.push_str(" ");
+        let answer = ShapeAnswer {
+            shanten: shanten - 1,
+            accepts: Accepts::Fourteen(call.discards),
+        };
+        push_shape(text, &answer);
     }
 }
 
-/// Writes the line of all calls that bring a hand nearer.
-
-pub fn push_calls(text: &mut AnswerText, calls: &[Option<Call>; 4])
-    requires { array_string_len text.old + MOST_CALLS ≤ ANSWER_ROOM }
-    ensures { text.new.bytes ≡ text.old.bytes ++ spec.calls_line calls.now }
-{
-    text.push_str("calls");
-    push_none(text, calls);
-    push_melds(text, calls);
-}
-
-/// Writes the line of a call that brings a hand of this shanten nearer: how far it then is, and its best discards.
-pub fn push_call(text: &mut AnswerText, shanten: i8, call: &Call)
-    requires room { array_string_len text.old + MOST_CALL ≤ ANSWER_ROOM }
-    requires shanten { spec.IsShanten shanten }
-    ensures { text.new.bytes ≡ text.old.bytes ++ spec.call_line shanten call.now }
-{
-    text.push_str("  ");
-    push_meld(text, &call.meld);
-    text.push_str(" ");
-    let answer = ShapeAnswer {
-        shanten: shanten - 1,
-        accepts: Accepts::Fourteen(call.discards),
-    };
-    push_shape(text, &answer);
-}
-
-/// Writes the line of a kong.
-pub fn push_kong(text: &mut AnswerText, tile: Kind, answer: &ShapeAnswer)
+/// Writes a kong, where there is one: how far the hand then is, and what it accepts before it draws.
+pub fn push_kong(text: &mut AnswerText, tile: Kind, answer: &Option<ShapeAnswer>)
     requires { array_string_len text.old + MOST_CALL ≤ ANSWER_ROOM }
-    ensures { text.new.bytes ≡ text.old.bytes ++ spec.kong_line tile answer.now }
+    ensures { text.new.bytes ≡ text.old.bytes ++ spec.kong_text tile answer.now }
 {
-    text.push_str("  ");
-    push_meld(text, &Meld::Kan(tile));
-    text.push_str(" ");
-    push_shape(text, answer);
+    if let Some(answer) = answer {
+        text.push_str(" ");
+        push_meld(text, &Meld::Kan(tile));
+        text.push_str(" ");
+        push_shape(text, answer);
+    }
 }

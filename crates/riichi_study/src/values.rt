@@ -1,9 +1,20 @@
-//! The values of a thrown tile and of who has thrown it.
+//! The values of thrown tiles, of one tile that was thrown and of who has thrown it.
 ghost use Rattle.std.specs.Prelude.{◌≡◌};
 ghost use Rattle.riichi_study.specs.Values as spec;
 
 use riichi_deeper::Thrower;
-use riichi_tiles::{Kind, read_counts};
+use riichi_tiles::{Counts, Kind, read_counts};
+
+/// The tiles that a text spells.
+#[tactic(auto, unfolding(crate::specs::Values::tiles_named))]
+pub(crate) fn read_tiles(value: &[u8]) -> Option<Counts>
+    ensures { result ≡ spec.tiles_named value.now }
+{
+    match read_counts(value) {
+        Ok(counts) => Some(counts),
+        Err(_) => None,
+    }
+}
 
 /// The kind of the only tile that a text spells.
 #[tactic(auto, unfolding(crate::specs::Values::tile_named))]

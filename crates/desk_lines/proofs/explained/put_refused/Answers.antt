@@ -10,6 +10,6 @@ returns c =
     let answer = fault_text fault ++ 10 ∷ [] in
     let why = c.push_refusal.ensures.text in
     let said = why.2 ∙ ap (λ (t : List ℕ). t ++ why.0) c.clear.ensures in
-    refusal_with_why c.args.rules c.args.line.now fault before c.put_lines.new.self.bytes.items why.0 why.1
-    (c.put_lines.ensures ∙ ap (λ (t : List ℕ). t ++ c.push_refusal.new.text.bytes) c.put_fault.ensures.told
+    refusal_with_why c.args.rules c.args.line.now fault before c.put_piece.new.self.bytes.items why.0 why.1
+    (c.put_piece.ensures ∙ ap (λ (t : List ℕ). t ++ c.push_refusal.new.text.bytes) c.put_fault.ensures.told
     ∙ append_assoc before answer c.push_refusal.new.text.bytes ∙ ap (λ (t : List ℕ). before ++ (answer ++ t)) said)

@@ -1,35 +1,26 @@
-use Rattle.std.proofs.Common.{◌++◌, FitsSigned, List, ℕ, ap, ◌∙◌, rules, arith}
+use Rattle.std.proofs.Common.{◌++◌, ◌∙◌, FitsSigned, List, ℕ, ap, rules, arith}
 use Rattle.std.proofs.Common as width
+use Rattle.std.proofs.Math.Facts.{to_z-of_z}
 use mir.Syntax.{w8}
 use mir.Val.{of_z, to_z}
-use Rattle.std.proofs.lemmas.Int.{ints}
-use Rattle.riichi_hand.specs.HandParts.{ShapeParts}
-use Rattle.riichi_shape.specs.EveryWinning.{distance_of, shanten_of}
-use Rattle.riichi_deeper.specs.Calls.{calls_of, kong_of}
-use Rattle.riichi_deeper.specs.declared.thrown.Thrown.{Thrown}
-use Rattle.riichi_deeper.proofs.DrawnLemmas.{shanten_told}
-use Rattle.riichi_study.specs.Texts.{calls_line}
-use Rattle.desk_study.specs.Answers.{line_front}
-use Rattle.desk_study.proofs.ShapeLemmas.{calls_put}
+use Rattle.riichi_tiles.specs.Melds.{tiles}
+use Rattle.riichi_tiles.specs.declared.meld.Meld.{Meld}
+use Rattle.riichi_shape.proofs.ShapeFacts.{melds_few}
+use Rattle.riichi_shape.specs.EveryWinning.{shanten_of}
+use Rattle.riichi_study.specs.Findings.{Finding}
+use Rattle.desk_study.specs.Answers.{told_in}
+use Rattle.desk_study.proofs.FindingLemmas.{calls_found}
 use Rattle.desk_study.proofs.calls.put_calls.Goals as goal
 
-pub put_found-requires-clause-shanten : goal.put_found-requires-clause-shanten
-put_found-requires-clause-shanten g c =
-    let hand = c.hand-hand.result in
-    let fits : FitsSigned width.w8 c.shape_with.result.shanten = search rules in
-    (distance_of hand.tiles hand.melds, omega (arith, ints, shanten_told hand c.shape_with.result c.shape_with.ensures.shape))
+pub shanten_with-shanten-requires : goal.shanten_with-shanten-requires
+shanten_with-shanten-requires g c = λ kind low. omega (arith, melds_few c.hand-hand.result c.tiles.ensures.shape kind low, ap (λ m. tiles m kind) c.melds.ensures)
 
-pub returns : goal.returns
-returns g c =
-    let parts = c.args.asked.now in
+pub returns-clause-bytes : goal.returns-clause-bytes
+returns-clause-bytes g c =
+    let before = c.args.outbox.now.bytes.items in
     let hand = c.hand-hand.result in
-    let thrown = c.thrown-thrown.result in
-    let hand_is = c.hand-hand.ensures.value in
-    let thrown_is = c.thrown-thrown.ensures in
-    let fits : FitsSigned width.w8 c.shape_with.result.shanten = search rules in
-    calls_put parts (to_z w8 (of_z w8 c.shape_with.result.shanten)) c.calls-found.result thrown.tile c.kong.result c.args.outbox.now.bytes.items (line_front c.args.front) c.push_calls.new.text.bytes c.put_text.new.self.bytes.items c.put_found.new.outbox.bytes.items c.put_kong.new.outbox.bytes.items
-    (c.push_calls.ensures ∙ ap (λ (t : List ℕ). t ++ calls_line c.calls-found.result) c.begin.ensures.bytes) c.put_text.ensures.told c.put_found.ensures.put c.put_kong.ensures
-    (omega (arith, ints, shanten_told hand c.shape_with.result c.shape_with.ensures.shape, ap (λ (h : ShapeParts). distance_of h.tiles h.melds) hand_is))
-    (c.calls-found.ensures.value ∙ ap (λ (h : ShapeParts). calls_of h thrown) hand_is ∙ ap (λ (t : Thrown). calls_of parts.hand t) thrown_is)
-    (ap (λ (t : Thrown). t.tile) thrown_is)
-    (c.kong.ensures.value ∙ ap (λ (h : ShapeParts). kong_of h thrown.tile) hand_is ∙ ap (λ (t : Thrown). kong_of parts.hand t.tile) thrown_is)
+    let fits : FitsSigned width.w8 c.shanten_with-shanten.result = search rules in
+    c.put_found.ensures.bytes
+    ∙ ap (λ (found : Finding). before ++ told_in c.args.form found) (calls_found c.args.asked.now hand c.thrown-thrown.result (to_z w8 (of_z w8 c.shanten_with-shanten.result)) c.calls-found.result c.kong-led.result c.hand-hand.ensures.value c.thrown-thrown.ensures
+    (to_z-of_z fits ∙ c.shanten_with-shanten.ensures.value ∙ ap (λ (ts : List ℕ). shanten_of ts c.melds.result) c.tiles.ensures.value ∙ ap (λ (ms : List Meld). shanten_of hand.tiles ms) c.melds.ensures)
+    c.calls-found.ensures.value c.kong-led.ensures.value)

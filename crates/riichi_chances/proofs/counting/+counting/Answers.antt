@@ -18,17 +18,17 @@ use Rattle.riichi_chances.proofs.counting.+counting.Goals.{gains-then-live-gt0, 
 pub best_rest-loop-place-init : goal.best_rest-loop-place-init
 best_rest-loop-place-init g t c = record { stays = refl; so_far = best_init c.args.aim.now c.args.drawn.now c.args.discards.now c.requires.discards }
 
-pub best_rest-without_tile-rest-requires-clause-fourteen : goal.best_rest-without_tile-rest-requires-clause-fourteen
-best_rest-without_tile-rest-requires-clause-fourteen g t c = c.requires.fourteen
+pub best_rest-best_discarded-rest-requires-clause-fourteen : goal.best_rest-best_discarded-rest-requires-clause-fourteen
+best_rest-best_discarded-rest-requires-clause-fourteen g t c = c.requires.fourteen
 
-pub best_rest-without_tile-rest-requires-clause-best : goal.best_rest-without_tile-rest-requires-clause-best
-best_rest-without_tile-rest-requires-clause-best g t c = best_at c.args.drawn.now c.args.discards.now c.loop-place.place c.in-Some.discard c.requires.discards (sym c.in-Some.is ∙ c.short_at.ensures)
+pub best_rest-best_discarded-rest-requires-clause-best : goal.best_rest-best_discarded-rest-requires-clause-best
+best_rest-best_discarded-rest-requires-clause-best g t c = best_at c.args.drawn.now c.args.discards.now c.loop-place.place c.in-Some.discard c.requires.discards (sym c.in-Some.is ∙ c.short_at.ensures)
 
-pub best_rest-without_tile-rest-requires-clause-far : goal.best_rest-without_tile-rest-requires-clause-far
-best_rest-without_tile-rest-requires-clause-far g t c = c.requires.far
+pub best_rest-best_discarded-rest-requires-clause-far : goal.best_rest-best_discarded-rest-requires-clause-far
+best_rest-best_discarded-rest-requires-clause-far g t c = c.requires.far
 
 pub best_rest-counts-requires : goal.best_rest-counts-requires
-best_rest-counts-requires g t c κs within = (omega (arith, c.decreases, c.without_tile-rest.ensures.as_near), (within, (c.without_tile-rest.ensures.thirteen, (c.requires.turns, c.requires.unseen))))
+best_rest-counts-requires g t c κs within = (omega (arith, c.decreases, c.best_discarded-rest.ensures.as_near), (within, (c.best_discarded-rest.ensures.thirteen, (c.requires.turns, c.requires.unseen))))
 
 pub best_rest-unreachable-requires : goal.best_rest-unreachable-requires
 best_rest-unreachable-requires g t c = never_past c.args.discards.now c.loop-place.place (omega (arith, c.loop-place-test.true, c.len-place-end.ensures.value)) (sym c.in-None.is ∙ c.short_at.ensures)
@@ -42,7 +42,7 @@ best_rest-loop-place-smaller g t c = omega (arith, c.loop-place-test.true)
 pub best_rest-loop-place-preserved : goal.best_rest-loop-place-preserved
 best_rest-loop-place-preserved g t c = record {
   stays = c.counts.ensures.stays ∙ c.loop-place.invariant.stays;
-  so_far = best_step c.args.aim.now c.args.drawn.now c.args.discards.now c.loop-place.best c.keep_greater.new.best c.loop-place.place c.in-Some.discard c.without_tile-rest.result c.counts.result c.loop-place.invariant.so_far (sym c.in-Some.is ∙ c.short_at.ensures) c.without_tile-rest.ensures.value c.counts.ensures.value c.keep_greater.ensures;
+  so_far = best_step c.args.aim.now c.args.drawn.now c.args.discards.now c.loop-place.best c.keep_greater.new.best c.loop-place.place c.in-Some.discard c.best_discarded-rest.result c.counts.result c.loop-place.invariant.so_far (sym c.in-Some.is ∙ c.short_at.ensures) c.best_discarded-rest.ensures.value c.counts.ensures.value c.keep_greater.ensures;
 }
 
 pub best_rest-returns-clause-value : goal.best_rest-returns-clause-value

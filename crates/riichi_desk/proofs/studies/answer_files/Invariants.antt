@@ -5,4 +5,4 @@ use Rattle.riichi_desk.proofs.studies.answer_files.Given as goal
 -- the files so far are answered
 abbrev pub invariant-loop-file : goal.invariant-loop-file
 invariant-loop-file g l =
-    (texts : List (List ℕ)) × (length texts ≡ l.file-index) × AnswersAllStudies g.W.Sink l.is_numbered l.fn.writer texts l.writer l.is_refused
+    (texts : List (List ℕ)) × (length texts ≡ l.file-index) × AnswersAllStudies g.W.Sink l.manner l.fn.writer texts l.writer l.is_refused

@@ -1,0 +1,3 @@
+pub mod SafeLemmas
+pub mod SafeSets
+pub mod FuritenLemmas

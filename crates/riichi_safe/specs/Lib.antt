@@ -1,0 +1,4 @@
+pub mod SafeParts
+pub mod Records
+pub mod Safe
+pub mod SafeLaws

@@ -1,0 +1,13 @@
+use Rattle.std.proofs.Common.{◌≡◌, ◌+◌, ◌*◌, ◌≤◌, ◌++◌, take}
+use Rattle.std.specs.List.{flat_map}
+use Rattle.arrayvec.specs.ArrayString.{array_string_len}
+use Rattle.riichi_study.specs.SafeReasons.{wait_reason}
+use Rattle.riichi_study.specs.declared.safe_reasons.TheConstants.{MOST_WAIT_REASON}
+use Rattle.riichi_study.proofs.safe_reasons.push_wait_reasons.Given as goal
+
+-- the waits so far are written
+abbrev pub invariant-loop-wait : goal.invariant-loop-wait
+invariant-loop-wait l = record {
+  bytes : l.text.bytes ≡ l.initial.text.bytes ++ flat_map (wait_reason l.kind) (take l.wait-index l.waits);
+  few : array_string_len l.text ≤ array_string_len l.initial.text + l.wait-index * MOST_WAIT_REASON;
+}
