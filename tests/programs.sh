@@ -80,6 +80,9 @@ if command -v cargo > /dev/null; then
   "$made/bench/release/bench" games 2000 17 > "$made/games.text"
   told 'two thousand random texts of games, by plain Rust' "$("$made/bench/release/bench" ledger < "$made/games.text" | sha256sum)" \
     "$("$program" game < "$made/games.text" | sha256sum)"
+  "$made/bench/release/bench" studies 400 6 > "$made/study.lines"
+  told 'shapes and calls beyond the next step, by plain Rust' "$("$made/bench/release/bench" study < "$made/study.lines" | sha256sum)" \
+    "$("$program" study < "$made/study.lines" | sha256sum)"
   "$made/bench/release/bench" safes 1000 5 > "$made/safe.lines"
   told 'furiten and safe tiles of a thousand random hands, by plain Rust' "$("$made/bench/release/bench" safe < "$made/safe.lines" | sha256sum)" \
     "$("$program" study < "$made/safe.lines" | sha256sum)"

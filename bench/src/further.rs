@@ -86,7 +86,7 @@ fn melds_of(hand: &Hand) -> [u8; 4] {
 fn by_definition(question: &Question, known: &mut Known) -> Told {
     let Question { hand, thrown } = question;
     let (second, good) = hand.deeper(known).unwrap_or((0, 0));
-    let found = calls(hand, thrown[0] as usize, thrown[1] == 0, true, known);
+    let found = calls(hand, thrown[0] as usize, thrown[1] == 0, known);
     let live = |kinds: &Vec<(usize, u8)>| kinds.iter().map(|&(_, live)| live).sum::<u8>();
     let mut calls: Vec<_> = found
         .iter()

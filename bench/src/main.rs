@@ -4,7 +4,7 @@
 //! `bench best TIMED` times the best score alone (`time_best` makes the program TIMED), and `bench shapes TIMED [HANDS]`
 //! shapes and shanten alone (`time_shapes` makes it);
 //! `bench pool PROGRAM [LINES]` times `score` beside `line`;
-//! `bench study < FILE` answers lines of second, good and calls, each by its definition, and `bench studies [COUNT [SEED]]` writes
+//! `bench study < FILE` answers questions of shapes and calls, each by its definition, and `bench studies [COUNT [SEED]]` writes
 //! random ones; `bench safe < FILE` answers lines of furiten and safe tiles, and `bench safes [COUNT [SEED]]` writes random ones;
 //! `bench ledger < FILE` answers a text of games, `bench need NAME [PLACE [NAMES]] < FILE` says what a player needs, and
 //! `bench games [COUNT [SEED [FOLDER]]]` writes random texts of games;

@@ -21,19 +21,7 @@ fn melds_with(tile: usize, from_left: bool) -> Vec<Meld> {
     melds
 }
 
-/// Whether the tile is of the called kind, or makes a run with the two that were laid down from the hand.
-fn swaps(meld: Meld, tile: usize, kind: usize) -> bool {
-    let Meld::Chi(low) = meld else {
-        return kind == tile;
-    };
-    let mut run: Vec<usize> = (low as usize..low as usize + 3).filter(|&part| part != tile).collect();
-    run.push(kind);
-    run.sort();
-    let ends = kind != tile && (run[0] == kind || run[2] == kind) && run[1] - run[0] == 1;
-    kind == tile || ends && run[2] - run[1] == 1 && run[0] / 9 == run[2] / 9
-}
-
-pub fn calls(hand: &Hand, tile: usize, from_left: bool, swap: bool, known: &mut Known) -> Vec<Call> {
+pub fn calls(hand: &Hand, tile: usize, from_left: bool, known: &mut Known) -> Vec<Call> {
     let before = hand.distance(known);
     let mut calls = Vec::new();
     for meld in melds_with(tile, from_left) {
@@ -43,7 +31,7 @@ pub fn calls(hand: &Hand, tile: usize, from_left: bool, swap: bool, known: &mut 
         let mut discards = Vec::new();
         for kind in (0..34).filter(|&kind| after.tiles[kind] > 0) {
             let rest = after.without(kind);
-            if rest.distance(known) < before && (swap || !swaps(meld, tile, kind)) {
+            if rest.distance(known) < before {
                 discards.push((kind, rest.accepted(known)));
             }
         }
@@ -54,4 +42,10 @@ pub fn calls(hand: &Hand, tile: usize, from_left: bool, swap: bool, known: &mut 
         }
     }
     calls
+}
+
+/// The hand after an open kong of the tile, where it holds the other three, before a tile is drawn for it.
+pub fn kong(hand: &Hand, tile: usize) -> Option<(Meld, Hand)> {
+    let meld = Meld::Kan(tile as u8);
+    Some((meld, hand.called(tile, meld)?))
 }

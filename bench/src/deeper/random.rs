@@ -66,14 +66,17 @@ fn approach(dice: &mut Dice, known: &mut Known, hand: &mut Hand) {
     }
 }
 
-/// A kind of which a copy is left: most are kinds that the hand accepts.
+/// A kind of which a copy is left: half of them such as the hand accepts, and some such as it holds twice or more.
 pub fn random_tile(dice: &mut Dice, known: &mut Known, hand: &Hand) -> usize {
-    let accepted = hand.accepted(known);
-    let any = dice.below(4) == 0 || accepted.is_empty();
-    if any {
+    let kinds: Vec<usize> = match dice.below(4) {
+        0 => Vec::new(),
+        1 => (0..34).filter(|&kind| hand.tiles[kind] >= 2 && hand.live(kind) > 0).collect(),
+        _ => hand.accepted(known).into_iter().map(|(kind, _)| kind).collect(),
+    };
+    if kinds.is_empty() {
         draw(dice, hand)
     } else {
-        accepted[dice.below(accepted.len())].0
+        kinds[dice.below(kinds.len())]
     }
 }
 
@@ -88,14 +91,14 @@ pub fn write_keys(out: &mut Vec<u8>, hand: &Hand) {
     }
 }
 
-/// Random lines; of calls each tile is one of which a copy is left, and most are of a kind that the hand accepts.
+/// Random lines, every other one of calls.
 pub fn write_lines(count: usize, seed: u64) -> std::io::Result<()> {
     let (mut dice, mut known, mut out) = (Dice::new(seed * 2 + 1), Known::default(), Vec::new());
     for number in 0..count {
         let is_call = number % 2 == 1;
         let size = if is_call || dice.below(4) > 0 { 13 } else { 14 };
         let hand = random_hand(&mut dice, &mut known, size);
-        out.extend_from_slice(if is_call { b"calls " } else { b"deeper " });
+        out.extend_from_slice(if is_call { b"calls " } else { b"shape " });
         write_counts(&mut out, &hand.tiles);
         if is_call {
             let tile = random_tile(&mut dice, &mut known, &hand);
@@ -104,8 +107,8 @@ pub fn write_lines(count: usize, seed: u64) -> std::io::Result<()> {
             out.extend_from_slice([&b" from=left"[..], b" from=left", b" from=across", b" from=right"][dice.below(4)]);
         }
         write_keys(&mut out, &hand);
-        if is_call && dice.below(2) == 0 {
-            out.extend_from_slice(b" swap=off");
+        if !is_call {
+            out.extend_from_slice([&b""[..], b" order=live", b" order=second", b" order=good"][dice.below(4)]);
         }
         out.push(b'\n');
     }
