@@ -142,7 +142,7 @@ class Hall:
                 return self._ranked
             provisional = state.open_session() is not None
             fault, players = None, []
-            games = views.played(state, True)
+            games = await asyncio.to_thread(views.played, state, True)
             if games:
                 try:
                     players = await asyncio.to_thread(self.program.standings, games)

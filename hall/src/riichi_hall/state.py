@@ -103,4 +103,4 @@ class State:
 
     def books_of(self, session: int) -> list[Book]:
         """The books of a session, by table."""
-        return [self.books[key] for key in sorted(self.books) if key.session == session]
+        return [self.books[key] for key in sorted(key for key in self.books if key.session == session)]

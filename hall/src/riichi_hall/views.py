@@ -9,7 +9,9 @@ from .state import Book, Key, State
 
 
 def deals(book: Book) -> list[dict[str, Any]]:
-    """The deals of a book with their answers, and who handed them in."""
+    """The deals of a book with their answers, and who handed them in. (Where a session begins all tables are shown that there is none.)"""
+    if not book.entries:
+        return []
     return [
         {"number": it.number, "line": it.line, "withdrawn": it.is_withdrawn, "text": it.text, "who": book.entries[it.number - 1].who}
         for it in deciding.answered(book.text)
