@@ -648,6 +648,8 @@ row 1 $'table 0\nrefused H2\nrefused H2' "good.game: $note" score "$room/good.ga
 told 'a text of games is said to be one once' 1 "$("$program" line --file "$room/good.game" 2>&1 > /dev/null | grep -c "$note")"
 printf 'games Anna\n' > "$room/input"
 told 'another word is no game' 0 "$("$program" line < "$room/input" 2>&1 > /dev/null | grep -c "$note")"
+# texts with all their answers
+. tests/answers.sh
 # questions of a player or a trainer
 . tests/study.sh
 # the standings of a tournament
