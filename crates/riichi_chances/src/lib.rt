@@ -15,14 +15,19 @@
 //! 15,006.
 #![tactic(auto)]
 
-mod chance;
+mod building;
+mod chances;
 mod counting;
+mod fault;
 mod goal;
+mod graph;
 pub mod laws;
+mod rows;
 mod span;
 mod tiles;
 mod unseen;
 
-pub use chance::{Chance, chance_of, chance_without};
+pub use chances::{Chances, DiscardChances, chances_of, discard_chances};
+pub use fault::ChancesFault;
 pub use goal::Goal;
 pub use span::MOST_TURNS;

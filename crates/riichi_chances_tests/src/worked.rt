@@ -1,8 +1,9 @@
 //! Worked hands.
 use crate::facts::same;
 use crate::hands::{hand, kind, size};
-use riichi_chances::{Chance, Goal, MOST_TURNS, chance_of, chance_without, laws};
+use riichi_chances::{Chances, ChancesFault, Goal, MOST_TURNS, chances_of, discard_chances, laws};
 use riichi_rows::FreshRows;
+use std::alloc::Global;
 use std::process::Abort;
 use std::test::Fail;
 
@@ -14,22 +15,41 @@ struct Row {
     chances: &'static [(u8, u128, u128)],
 }
 
-fn answer_to(row: &Row, turns: u8) -> Result<Chance, Fail> {
+/// So many hands are enough for each of these.
+const MOST_HANDS: usize = 8192;
+
+/// The chances of a row by all turns.
+fn answer_to(rt: &impl Abort, alloc: Global, row: &Row) -> Result<Chances, Fail> {
     let asked = hand(row.hand, &[], "")?;
-    if turns > MOST_TURNS {
-        return Err(Fail::from("too many turns"));
-    }
     if row.discard.is_empty() {
         if size(&asked) == 13 {
-            return Ok(chance_of(&mut FreshRows, &asked, row.goal, turns));
+            let told = chances_of(alloc, &mut FreshRows, &asked, MOST_TURNS, MOST_HANDS);
+            return told.map_err(refused);
         }
         return Err(Fail::from("not thirteen tiles"));
     }
-    let discard = kind(row.discard)?;
-    if size(&asked) == 14 && asked.tiles().get(discard) > 0 {
-        return Ok(chance_without(&mut FreshRows, &asked, discard, row.goal, turns));
+    if size(&asked) != 14 {
+        return Err(Fail::from("not fourteen tiles"));
     }
-    Err(Fail::from("no such discard"))
+    let discard = kind(row.discard)?;
+    match discard_chances(alloc, &mut FreshRows, &asked, MOST_TURNS, MOST_HANDS) {
+        Ok(each) => {
+            for one in &each {
+                if one.kind == discard {
+                    return Ok(one.chances);
+                }
+            }
+            Err(Fail::from("no such discard"))
+        }
+        Err(fault) => Err(refused(fault)),
+    }
+}
+
+fn refused(fault: ChancesFault) -> Fail {
+    match fault {
+        ChancesFault::Memory => Fail::from("no memory"),
+        ChancesFault::TooManyHands => Fail::from("too many hands"),
+    }
 }
 
 /// The draws that lead there, where so many of so many do.
@@ -176,10 +196,18 @@ const FAR: [Row; 4] = [
     },
 ];
 
-fn check(rt: &impl Abort, row: &Row) -> Result<(), Fail> {
+fn check(rt: &impl Abort, alloc: Global, row: &Row) -> Result<(), Fail> {
+    let told = answer_to(rt, alloc, row)?;
     for (turns, some, among) in row.chances {
-        let told = answer_to(row, *turns)?;
-        same(rt, Some(told.reached), part_of(told.all, *some, *among));
+        let left = *turns as usize;
+        if left > 18 {
+            return Err(Fail::from("too many turns"));
+        }
+        let reached = match row.goal {
+            Goal::Ready => told.ready[left],
+            Goal::Win => told.win[left],
+        };
+        same(rt, Some(reached), part_of(told.all[left], *some, *among));
     }
     Ok(())
 }
@@ -187,7 +215,7 @@ fn check(rt: &impl Abort, row: &Row) -> Result<(), Fail> {
 #[test]
 fn few_turns(rt: HostRuntime) -> Result<(), Fail> {
     for row in &FEW_TURNS {
-        check(&rt, row)?;
+        check(&rt, rt.alloc(), row)?;
     }
     Ok(())
 }
@@ -195,7 +223,7 @@ fn few_turns(rt: HostRuntime) -> Result<(), Fail> {
 #[test]
 fn many_turns(rt: HostRuntime) -> Result<(), Fail> {
     for row in &MANY_TURNS {
-        check(&rt, row)?;
+        check(&rt, rt.alloc(), row)?;
     }
     Ok(())
 }
@@ -203,7 +231,7 @@ fn many_turns(rt: HostRuntime) -> Result<(), Fail> {
 #[test]
 fn far_hands(rt: HostRuntime) -> Result<(), Fail> {
     for row in &FAR {
-        check(&rt, row)?;
+        check(&rt, rt.alloc(), row)?;
     }
     Ok(())
 }
