@@ -19,14 +19,15 @@ use Rattle.riichi_shape.specs.declared.discard.ShortDiscard.{ShortDiscard}
 use Rattle.riichi_shape.proofs.Choices.{discards_are}
 use Rattle.riichi_deeper.proofs.DeeperLemmas.{has_copies, pair_at, rest_all, rest_end, rest_none, rest_of, rest_some}
 use Rattle.riichi_deeper.specs.Drawn.{parts_with}
-use Rattle.riichi_chances.specs.Aims.{HasCounts, HasCountsWith, HasGains, lack_of, draws_at}
+use Rattle.riichi_chances.specs.Aims.{Aim, HasCounts, lack_of, draws_at}
 use Rattle.riichi_chances.specs.Counted.{accepts, counted_draws, counted_by, counted_rest, counted_with, accepted_draws, parts_less}
 use Rattle.riichi_chances.specs.Draws.{all_draws, greatest, is_there}
 use Rattle.riichi_chances.specs.Numbers.{most_draws, unseen_at}
-use Rattle.riichi_chances.specs.declared.counting.Aim.{Aim}
-use Rattle.riichi_chances.specs.declared.goal.Goal.{Goal}
 use Rattle.riichi_chances.proofs.BoundLemmas.{accepted_few, all_few, counted_few, gains_few, times_few}
 use Rattle.riichi_chances.proofs.SpanLemmas.{all_none, next_fits, one_turn_more}
+
+abbrev pub gains_at : Aim → ShapeParts → ℕ → ℕ
+gains_at aim parts left = accepted_draws (lack_of aim.goal) (unseen_at aim.span left) left (draws_at aim left) parts
 
 -- ---- a hand that is there
 
@@ -55,12 +56,12 @@ unfolding counted_draws
 far_more goal parts unseen left far =
     ap (λ t. cond t (all_draws unseen (suc left)) ((unseen - live_in (accepts parts)) * counted_draws goal parts (unseen - 1) left + accepted_draws goal (unseen - 1) left (λ rest. counted_draws goal rest (unseen - 1) left) parts)) far
 
-module _ (aim : Aim) (parts : ShapeParts) (far : is_there (lack_of aim.goal) parts ≡ false) (live : ℕ) (live_is : live ≡ live_in (accepts parts)) (sums row : List ℕ) (are_gains : HasGains aim parts sums) (none : slice_index row 0 ≡ 0)
-    (more : (left : ℕ) → left < aim.span.turns → slice_index row (left + 1) ≡ (unseen_at aim.span (left + 1) - live) * slice_index row left + slice_index sums left) where
+module _ (aim : Aim) (parts : ShapeParts) (far : is_there (lack_of aim.goal) parts ≡ false) (live : ℕ) (live_is : live ≡ live_in (accepts parts)) (begun : ℕ → ℕ) (row : List ℕ) (are_gains : (left : ℕ) → left < aim.span.turns → begun left ≡ gains_at aim parts left) (none : slice_index row 0 ≡ 0)
+    (more : (left : ℕ) → left < aim.span.turns → slice_index row (left + 1) ≡ (unseen_at aim.span (left + 1) - live) * slice_index row left + begun left) where
   step : (left : ℕ) → left < aim.span.turns → slice_index row left ≡ draws_at aim left parts → slice_index row (left + 1) ≡ counted_draws (lack_of aim.goal) parts (unseen_at aim.span (left + 1)) (suc left)
   step left low so_far =
-      more left low ∙ ap (λ n. (unseen_at aim.span (left + 1) - n) * slice_index row left + slice_index sums left) live_is
-      ∙ ap (λ n. (unseen_at aim.span (left + 1) - live_in (accepts parts)) * n + slice_index sums left) so_far
+      more left low ∙ ap (λ n. (unseen_at aim.span (left + 1) - n) * slice_index row left + begun left) live_is
+      ∙ ap (λ n. (unseen_at aim.span (left + 1) - live_in (accepts parts)) * n + begun left) so_far
       ∙ ap (λ n. (unseen_at aim.span (left + 1) - live_in (accepts parts)) * draws_at aim left parts + n) (are_gains left low)
       ∙ ap (λ n. (unseen_at aim.span (left + 1) - live_in (accepts parts)) * counted_draws (lack_of aim.goal) parts n left + accepted_draws (lack_of aim.goal) n left (λ rest. counted_draws (lack_of aim.goal) rest n left) parts) (sym (one_turn_more aim.span left low))
       ∙ sym (far_more (lack_of aim.goal) parts (unseen_at aim.span (left + 1)) left far)
@@ -149,109 +150,10 @@ never_past (discard ∷ rest) (suc place) low e = never_past rest place (omega a
 
 -- ---- numbers that are nought
 
-zero_at : (n k : ℕ) → slice_index (replicate n 0) k ≡ 0
+pub zero_at : (n k : ℕ) → slice_index (replicate n 0) k ≡ 0
 zero_at zero k = refl
 zero_at (suc n) zero = refl
 zero_at (suc n) (suc k) = zero_at n k
-
-abbrev pub no_draws : List ℕ
-no_draws = replicate 19 0
-
--- ---- the best of the discards so far
-
-pub record BestSoFar (aim : Aim) (drawn : ShapeParts) (discards : List Discard) (best : List ℕ) (place : ℕ) : Type 0 where
-  pub at : (left : ℕ) → left ≤ aim.span.turns → max (slice_index best left) (most_from (λ kind. draws_at aim left (parts_less drawn kind)) discards place) ≡ counted_rest (draws_at aim left) drawn
-
-module _ (aim : Aim) (drawn : ShapeParts) (discards : List Discard) where
-  none_max : (a b : ℕ) → a ≡ 0 → max a b ≡ b
-  none_max a b e = omega arith
-
-  pub best_init : discards ≡ discards_of drawn.tiles drawn.melds drawn.seen → BestSoFar aim drawn discards no_draws 0
-  best_init is = record {
-    at = λ left low.
-        none_max (slice_index no_draws left) (most_from (λ kind. draws_at aim left (parts_less drawn kind)) discards 0) (zero_at 19 left)
-        ∙ ap (λ (ds : List Discard). most_from (λ kind. draws_at aim left (parts_less drawn kind)) ds 0) is ∙ most_all (draws_at aim left) drawn;
-  }
-
-  pub best_step : (best after : List ℕ) (place : ℕ) (short : ShortDiscard) (rest : ShapeParts) (numbers : List ℕ) → BestSoFar aim drawn discards best place → Some short ≡ option_map short_of (slice_get discards place) → rest ≡ parts_less drawn short.kind → HasCounts aim rest numbers →
-      ((left : ℕ) → slice_index after left ≡ max (slice_index best left) (slice_index numbers left)) → BestSoFar aim drawn discards after (place + 1)
-  best_step best after place short rest numbers so_far e rest_is are greater = record {
-    at = λ left low.
-        (let value : ℕ → ℕ = λ kind. draws_at aim left (parts_less drawn kind) in
-        let number = are left low ∙ ap (λ (parts : ShapeParts). draws_at aim left parts) rest_is in
-        sum_up (slice_index after left) (slice_index best left) (slice_index numbers left) (value short.kind) (most_from value discards place) (most_from value discards (place + 1)) (greater left) number (most_at value discards place short e) ∙ so_far.at left low);
-  }
-    where
-      sum_up : (a b n v m r : ℕ) → a ≡ max b n → n ≡ v → m ≡ max v r → max a r ≡ max b m
-      sum_up a b n v m r e f g = omega arith
-
-  pub best_end : (best : List ℕ) (place : ℕ) → BestSoFar aim drawn discards best place → length discards ≤ place → (left : ℕ) → left ≤ aim.span.turns → slice_index best left ≡ counted_rest (draws_at aim left) drawn
-  best_end best place so_far past left low = last (slice_index best left) (most_from (λ kind. draws_at aim left (parts_less drawn kind)) discards place) (most_past (λ kind. draws_at aim left (parts_less drawn kind)) discards place past) ∙ so_far.at left low
-    where
-      last : (a r : ℕ) → r ≡ 0 → a ≡ max a r
-      last a r e = omega arith
-
--- ---- the sums over the accepted kinds so far
-
-abbrev pub gain_by : Aim → ShapeParts → ℕ → ℕ × ℕ → ℕ
-gain_by aim parts left = counted_by (lack_of aim.goal) (unseen_at aim.span left) left (draws_at aim left) parts
-
-abbrev pub gains_at : Aim → ShapeParts → ℕ → ℕ
-gains_at aim parts left = accepted_draws (lack_of aim.goal) (unseen_at aim.span left) left (draws_at aim left) parts
-
-pub record GainsSoFar (aim : Aim) (parts : ShapeParts) (copies sums : List ℕ) (number : ℕ) : Type 0 where
-  pub at : (left : ℕ) → left < aim.span.turns → slice_index sums left + rest_of (gain_by aim parts left) copies number ≡ gains_at aim parts left
-
--- the numbers of fourteen tiles where fewer turns are left than at first
-pub record HasLaterCounts (aim : Aim) (drawn : ShapeParts) (numbers : List ℕ) : Type 0 where
-  pub at : (left : ℕ) → left < aim.span.turns → slice_index numbers left ≡ counted_with (lack_of aim.goal) (unseen_at aim.span left) left (draws_at aim left) drawn
-
--- they are those of what is asked once a tile has been drawn
-pub later_counts : (aim later : Aim) (drawn : ShapeParts) (numbers : List ℕ) → later.goal ≡ aim.goal → later.span.turns + 1 ≡ aim.span.turns → later.span.unseen ≡ aim.span.unseen - 1 → HasCountsWith later drawn numbers → HasLaterCounts aim drawn numbers
-later_counts aim later drawn numbers goal_is turns unseen are = record {
-  at = λ left low.
-      are left (omega (arith, turns, low))
-      ∙ ap (λ n. counted_with (lack_of later.goal) n left (λ rest. counted_draws (lack_of later.goal) rest n left) drawn) (same_unseen left low)
-      ∙ ap (λ (g : Goal). counted_with (lack_of g) (unseen_at aim.span left) left (λ rest. counted_draws (lack_of g) rest (unseen_at aim.span left) left) drawn) goal_is;
-}
-  where
-    same_unseen : (left : ℕ) → left < aim.span.turns → unseen_at later.span left ≡ unseen_at aim.span left
-    same_unseen left low = omega (arith, turns, unseen, low)
-
-pub no_gains : (aim : Aim) (parts : ShapeParts) (sums : List ℕ) → aim.span.turns ≡ 0 → HasGains aim parts sums
-no_gains aim parts sums none left low = absurd (omega (arith, none, low))
-
-module _ (aim : Aim) (parts : ShapeParts) (copies : List ℕ) where
-  pub gains_init : (accepted : List (ℕ × ℕ)) → accepted ≡ pairs_of copies → accepted ≡ accepted_of parts.tiles parts.melds parts.seen → GainsSoFar aim parts copies no_draws 0
-  unfolding accepted_draws
-  gains_init accepted e f = record {
-    at = λ left low. omega (arith, zero_at 19 left, rest_all (gain_by aim parts left) copies, ap (sum_by (gain_by aim parts left)) (sym e ∙ f));
-  }
-
-  module _ (number : ℕ) (low : number < 34) where
-    -- a kind with live copies
-    module _ (some : 0 < slice_index copies number) (place : ℕ) (drawn : ShapeParts) (place_is : place ≡ number) (drawn_is : drawn ≡ parts_with parts place) (numbers : List ℕ) (are : HasLaterCounts aim drawn numbers) where
-      number_at : (left : ℕ) → left < aim.span.turns → slice_index copies number * slice_index numbers left ≡ gain_by aim parts left (number, slice_index copies number)
-      number_at left small =
-          ap (λ n. slice_index copies number * n) (are.at left small ∙ ap (counted_with (lack_of aim.goal) (unseen_at aim.span left) left (draws_at aim left)) (drawn_is ∙ ap (parts_with parts) place_is))
-
-      pub gains_step : (sums added after : List ℕ) → GainsSoFar aim parts copies sums number → ((left : ℕ) → left < aim.span.turns → slice_index added left ≡ slice_index sums left + slice_index copies number * slice_index numbers left) → after ≡ added → GainsSoFar aim parts copies after (number + 1)
-      gains_step sums added after so_far more after_is = record {
-        at = λ left small. omega (arith, so_far.at left small, more left small, ap (λ (ns : List ℕ). slice_index ns left) after_is, number_at left small, rest_some (gain_by aim parts left) copies number low some);
-      }
-
-      pub gains_fit : (sums : List ℕ) → GainsSoFar aim parts copies sums number → aim.span.turns ≤ 18 → aim.span.unseen ≤ 136 → (left : ℕ) → left < aim.span.turns → slice_index sums left + slice_index copies number * slice_index numbers left < 2 ^ 128
-      gains_fit sums so_far turns unseen left small =
-          next_fits left aim.span.turns (slice_index sums left + slice_index copies number * slice_index numbers left) small turns
-          (omega (arith, so_far.at left small, number_at left small, rest_some (gain_by aim parts left) copies number low some, gains_bound aim parts 136 unseen (accepted_few parts) left))
-
-    pub gains_same : (sums after : List ℕ) → GainsSoFar aim parts copies sums number → slice_index copies number ≤ 0 → after ≡ sums → GainsSoFar aim parts copies after (number + 1)
-    gains_same sums after so_far none after_is = record {
-      at = λ left small. omega (arith, so_far.at left small, ap (λ (ns : List ℕ). slice_index ns left) after_is, rest_none (gain_by aim parts left) copies number low none);
-    }
-
-  pub gains_end : (sums : List ℕ) (number : ℕ) → GainsSoFar aim parts copies sums number → number ≡ 34 → (left : ℕ) → left < aim.span.turns → slice_index sums left ≡ gains_at aim parts left
-  gains_end sums number so_far e left small = omega (arith, so_far.at left small, rest_end (gain_by aim parts left) copies number e)
 
 -- a kind of the list brings the hand nearer
 pub drawn_nearer : (parts : ShapeParts) (copies : List ℕ) (number place : ℕ) (drawn : ShapeParts) → pairs_of copies ≡ accepted_of parts.tiles parts.melds parts.seen → number < 34 → 0 < slice_index copies number → place ≡ number → drawn ≡ parts_with parts place → distance_of drawn.tiles drawn.melds < distance_of parts.tiles parts.melds

@@ -1,7 +1,9 @@
 pub mod BoundLemmas
+pub mod BuildingLemmas
 pub mod ChanceLemmas
 pub mod CountedLemmas
 pub mod CountingLemmas
+pub mod GraphLemmas
 pub mod LiveDraws
 pub mod NearestLemmas
 pub mod SpanLemmas

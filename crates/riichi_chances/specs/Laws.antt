@@ -13,6 +13,13 @@ pub record IsThirteen (parts : ShapeParts) : Type 0 where
   pub thirteen : size parts.tiles parts.melds ≡ 13
   pub melded : (kind : ℕ) → kind < 34 → tiles parts.melds kind ≤ 4
 
+-- the same with a tile more
+pub record IsFourteen (parts : ShapeParts) : Type 0 where
+  pub each_kind : length parts.tiles ≡ 34
+  pub each_seen : length parts.seen ≡ 34
+  pub fourteen : size parts.tiles parts.melds ≡ 14
+  pub melded : (kind : ℕ) → kind < 34 → tiles parts.melds kind ≤ 4
+
 -- the state is the hand and the turns that are left: the accepted kinds alone tell the draws
 abbrev pub CountedLaw : Type 0
 CountedLaw = (goal : ℕ) (parts : ShapeParts) (turns : ℕ) → IsThirteen parts → draws goal parts turns ≡ counted_draws goal parts (unseen_of parts) turns

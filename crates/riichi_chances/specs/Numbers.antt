@@ -35,3 +35,8 @@ AreAdded turns times more before after = (left : ℕ) → left < turns → slice
 -- of each two numbers the greater
 abbrev pub AreGreater : List ℕ → List ℕ → List ℕ → Type 0
 AreGreater other before after = (left : ℕ) → slice_index after left ≡ max (slice_index before left) (slice_index other left)
+
+-- where the hand is ready, so that any of so many live tiles wins
+abbrev pub FollowReady : Span → ℕ → List ℕ → Type 0
+FollowReady span live numbers =
+    (left : ℕ) → left < span.turns → slice_index numbers (left + 1) ≡ (unseen_at span (left + 1) - live) * slice_index numbers left + live * all_draws (unseen_at span left) left

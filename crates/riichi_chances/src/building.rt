@@ -1,12 +1,20 @@
 //! The hands that a hand may come to, by what each accepts.
+ghost use Rattle.std.specs.Prelude.{◌≡◌, ◌<◌, ◌++◌, [], ◌∷◌, IfOk, OnOk, length};
+ghost use Rattle.riichi_shape.specs.Accepted.{accepted_of};
+ghost use Rattle.riichi_shape.specs.Discards.{discards_of};
+ghost use Rattle.riichi_shape.specs.EveryWinning.{distance_of};
+ghost use Rattle.riichi_chances.specs.Graph as spec;
+ghost use Rattle.riichi_chances.specs.Laws.{IsFourteen, IsThirteen};
+
 use crate::fault::ChancesFault;
+use crate::goal::is_ready;
 use crate::graph::{Draw, Graph, Node};
 use crate::tiles::best_discarded;
 use riichi_deeper::with_tile;
 use riichi_hand::ShapeRecord;
 use riichi_shape::{Accepts, DiscardList, LiveList, RowSource, shape_with};
 use riichi_tiles::Kind;
-use std::alloc::{AllocError, AllocFailed};
+use std::alloc::AllocError;
 
 /// The place of thirteen tiles, which are taken with all that they lead to where they weren't there before.
 #[cycle(building)]
@@ -15,26 +23,49 @@ pub(crate) fn place_of<R: RowSource>(
     graph: &mut Graph,
     asked: &ShapeRecord,
 ) -> Result<usize, ChancesFault>
+    requires whole { IsThirteen asked.now }
+    requires graph { spec.IsGraph asked.now graph.old }
+    ensures grows { OnOk result (spec.Grows asked.now graph.old graph.new) }
+    ensures place { IfOk result (spec.IsPlaceOf graph.new asked.now) }
+    ensures stays { source.new ≡ source.old }
 {
-    let hand = asked.tiles().to_array();
-    if let Some(place) = graph.place_of(&hand) {
+    if let Some(place) = graph.known(asked) {
         return Ok(place);
     }
+    let node = node_of(source, graph, asked)?;
+    graph.add(asked, node)
+}
+
+/// What thirteen tiles accept.
+#[cycle(building)]
+fn node_of<R: RowSource>(
+    source: &mut R,
+    graph: &mut Graph,
+    asked: &ShapeRecord,
+) -> Result<Node, ChancesFault>
+    requires whole { IsThirteen asked.now }
+    requires graph { spec.IsGraph asked.now graph.old }
+    ensures grows { OnOk result (spec.Grows asked.now graph.old graph.new) }
+    ensures node { IfOk result (spec.IsNode graph.new.hands.keys (length graph.new.nodes.items) asked.now) }
+    ensures stays { source.new ≡ source.old }
+{
     let answer = shape_with(source, asked);
     match &answer.accepts {
         Accepts::Thirteen(accepted) => {
-            let is_ready = answer.shanten <= 0;
-            let draws = if is_ready {
-                Vec::new(graph.alloc)
-            } else {
-                draws_of(source, graph, asked, accepted)?
-            };
-            let node = Node {
-                is_ready,
-                live: accepted.live() as u8,
+            let live = accepted.live() as u8;
+            if is_ready(answer.shanten) {
+                return Ok(Node {
+                    is_ready: true,
+                    live,
+                    draws: Vec::new(graph.alloc),
+                });
+            }
+            let draws = draws_of(source, graph, asked, accepted)?;
+            Ok(Node {
+                is_ready: false,
+                live,
                 draws,
-            };
-            graph.add(hand, node)
+            })
         }
         Accepts::Fourteen(_) => unreachable!(),
     }
@@ -48,6 +79,14 @@ fn draws_of<R: RowSource>(
     asked: &ShapeRecord,
     accepted: &LiveList,
 ) -> Result<Vec<Draw>, ChancesFault>
+    requires whole { IsThirteen asked.now }
+    requires accepted { accepted.now ≡ accepted_of asked.now.tiles asked.now.melds asked.now.seen }
+    requires far { 1 < distance_of asked.now.tiles asked.now.melds }
+    requires graph { spec.IsGraph asked.now graph.old }
+    ensures grows { OnOk result (spec.Grows asked.now graph.old graph.new) }
+    ensures before { IfOk result (λ draws. spec.LeadBefore (length graph.new.nodes.items) draws.items) }
+    ensures leads { IfOk result (λ draws. spec.LeadTo graph.new.hands.keys draws.items asked.now) }
+    ensures stays { source.new ≡ source.old }
 {
     let mut draws = Vec::new(graph.alloc);
     let copies = accepted.copies();
@@ -56,15 +95,10 @@ fn draws_of<R: RowSource>(
         if live > 0 {
             let drawn = with_tile(asked, Kind::at(number));
             let rests = rests_of(source, graph, &drawn)?;
-            keep(&mut draws, Draw { live, rests })?;
+            keep_draw(&mut draws, Draw { live, rests })?;
         }
     }
     Ok(draws)
-}
-
-fn keep(draws: &mut Vec<Draw>, draw: Draw) -> Result<(), AllocError> {
-    draws.push(draw)?;
-    Ok(())
 }
 
 /// The places of what the best discards of fourteen tiles leave.
@@ -74,6 +108,13 @@ fn rests_of<R: RowSource>(
     graph: &mut Graph,
     drawn: &ShapeRecord,
 ) -> Result<Vec<usize>, ChancesFault>
+    requires whole { IsFourteen drawn.now }
+    requires far { 0 < distance_of drawn.now.tiles drawn.now.melds }
+    requires graph { spec.IsGraph drawn.now graph.old }
+    ensures grows { OnOk result (spec.Grows drawn.now graph.old graph.new) }
+    ensures before { IfOk result (λ rests. spec.AreBefore (length graph.new.nodes.items) rests.items) }
+    ensures rests { IfOk result (λ rests. spec.AreRests graph.new.hands.keys rests.items drawn.now) }
+    ensures stays { source.new ≡ source.old }
 {
     let answer = shape_with(source, drawn);
     match &answer.accepts {
@@ -90,6 +131,14 @@ fn places_of<R: RowSource>(
     drawn: &ShapeRecord,
     discards: &DiscardList,
 ) -> Result<Vec<usize>, ChancesFault>
+    requires whole { IsFourteen drawn.now }
+    requires discards { discards.now ≡ discards_of drawn.now.tiles drawn.now.melds drawn.now.seen }
+    requires far { 0 < distance_of drawn.now.tiles drawn.now.melds }
+    requires graph { spec.IsGraph drawn.now graph.old }
+    ensures grows { OnOk result (spec.Grows drawn.now graph.old graph.new) }
+    ensures before { IfOk result (λ rests. spec.AreBefore (length graph.new.nodes.items) rests.items) }
+    ensures rests { IfOk result (λ rests. spec.AreRests graph.new.hands.keys rests.items drawn.now) }
+    ensures stays { source.new ≡ source.old }
 {
     let mut places = Vec::new(graph.alloc);
     for at in 0..discards.len() {
@@ -105,7 +154,16 @@ fn places_of<R: RowSource>(
     Ok(places)
 }
 
-fn keep_place(places: &mut Vec<usize>, place: usize) -> Result<(), AllocError> {
+fn keep_draw(draws: &mut Vec<Draw>, draw: Draw) -> Result<(), AllocError>
+    ensures { OnOk result (draws.new.items ≡ draws.old.items ++ draw ∷ []) }
+{
+    draws.push(draw)?;
+    Ok(())
+}
+
+fn keep_place(places: &mut Vec<usize>, place: usize) -> Result<(), AllocError>
+    ensures { OnOk result (places.new.items ≡ places.old.items ++ place ∷ []) }
+{
     places.push(place)?;
     Ok(())
 }

@@ -1,14 +1,18 @@
 //! The chances of a hand by each number of turns.
+ghost use Rattle.std.specs.Prelude.{◌≡◌, ◌<◌, ◌≤◌, IfOk, length, true};
+ghost use Rattle.riichi_hand.specs.Hand.{is_thirteen};
+ghost use Rattle.riichi_hand.specs.HandParts.{ShapeParts};
+ghost use Rattle.riichi_chances.specs.Chances as spec;
+ghost use Rattle.riichi_chances.specs.Graph.{IsGraph, hand_at};
+
 use crate::building::place_of;
 use crate::counting::fill;
 use crate::fault::ChancesFault;
 use crate::graph::Graph;
-use crate::span::{ByTurns, Span};
+use crate::span::Span;
 use crate::unseen::unseen;
-use riichi_deeper::without_tile;
 use riichi_hand::ShapeRecord;
-use riichi_shape::{Accepts, DiscardList, RowSource, shape_with};
-use riichi_tiles::Kind;
+use riichi_shape::RowSource;
 use std::alloc::{AllocError, Global};
 
 /// At the place of each number of turns: of all ordered draws of so many unseen tiles those that bring a hand to be ready, and those
@@ -20,7 +24,7 @@ pub struct Chances {
     pub all: [u128; 19],
 }
 
-/// The chances of thirteen tiles.
+/// The chances of thirteen tiles for each number of turns up to this, if it comes to so many hands at most.
 pub fn chances_of<R: RowSource>(
     alloc: Global,
     source: &mut R,
@@ -28,60 +32,43 @@ pub fn chances_of<R: RowSource>(
     turns: u8,
     most_hands: usize,
 ) -> Result<Chances, ChancesFault>
+    requires thirteen { is_thirteen asked.now.tiles asked.now.melds ≡ true }
+    requires turns { turns ≤ 18 }
+    ensures chances { IfOk result (spec.AreChances asked.now turns) }
+    ensures stays { source.new ≡ source.old }
 {
+    let unseen = unseen(asked);
     let mut graph = Graph::new(alloc, most_hands);
     let place = place_of(source, &mut graph, asked)?;
-    let chances = by_turns(&graph, place, unseen(asked), turns)?;
+    let chances = by_turns(&graph, place, unseen, turns)?;
     Ok(chances)
 }
 
-fn by_turns(graph: &Graph, place: usize, unseen: u8, turns: u8) -> Result<Chances, AllocError> {
+/// The chances of the hand at a place, where so many tiles are unseen.
+fn by_turns(graph: &Graph, place: usize, unseen: u8, turns: u8) -> Result<Chances, AllocError>
+    requires turns { turns ≤ 18 }
+    requires unseen { unseen ≤ 136 }
+    requires graph { (root : ShapeParts) × IsGraph root graph.now }
+    requires inside { place < length graph.now.nodes.items }
+    ensures { (root : ShapeParts) → IsGraph root graph.now
+        → IfOk result (spec.AreCounted (hand_at root graph.now.hands.keys place) unseen turns) }
+{
     let mut rows = Vec::with_capacity(graph.alloc, graph.nodes.len())?;
-    let mut chances = Chances { ready: [0; 19], win: [0; 19], all: [0; 19] };
+    let mut chances = Chances {
+        ready: [0; 19],
+        win: [0; 19],
+        all: [0; 19],
+    };
     for count in 0..turns + 1 {
-        let span = Span { unseen, turns: count };
-        fill(&mut rows, graph.nodes.as_slice(), span)?;
+        let span = Span {
+            unseen,
+            turns: count,
+        };
+        fill(&mut rows, graph, span)?;
         let left = count as usize;
         chances.ready[left] = rows[place].ready[left];
         chances.win[left] = rows[place].win[left];
         chances.all[left] = span.all_draws()[left];
     }
     Ok(chances)
-}
-
-/// The chances after a discard.
-#[derive(Clone, Copy, Debug, PartialEq, Eq, Drop)]
-pub struct DiscardChances {
-    pub kind: Kind,
-    pub chances: Chances,
-}
-
-/// The chances after each best discard of fourteen tiles, which is then seen.
-pub fn discard_chances<R: RowSource>(
-    alloc: Global,
-    source: &mut R,
-    asked: &ShapeRecord,
-    turns: u8,
-    most_hands: usize,
-) -> Result<Vec<DiscardChances>, ChancesFault>
-{
-    let answer = shape_with(source, asked);
-    let mut each = Vec::new(alloc);
-    match &answer.accepts {
-        Accepts::Fourteen(discards) => {
-            for at in 0..discards.len() {
-                match discards.short_at(at) {
-                    Some(discard) => {
-                        let kind = discard.kind;
-                        let chances = chances_of(alloc, source, &without_tile(asked, kind), turns, most_hands)?;
-                        let one = DiscardChances { kind, chances };
-                        match each.push(one) { Ok(()) => {}, Err(_) => return Err(ChancesFault::Memory), }
-                    }
-                    None => unreachable!(),
-                }
-            }
-        }
-        Accepts::Thirteen(_) => unreachable!(),
-    }
-    Ok(each)
 }

@@ -1,6 +1,11 @@
 //! The hands that a hand may come to, each once.
+ghost use Rattle.std.specs.Prelude.{IfOk, IfSome, OnOk, length};
+ghost use Rattle.riichi_hand.specs.HandParts.{ShapeParts};
+ghost use Rattle.riichi_chances.specs.Graph as spec;
+
 use crate::fault::ChancesFault;
 use indexmap::IndexSet;
+use riichi_hand::ShapeRecord;
 use std::alloc::{AllocError, Global};
 
 /// A draw that a hand accepts: the live copies of its kind, and the places of the hands that the best discards then leave.
@@ -18,7 +23,8 @@ pub(crate) struct Node {
     pub draws: Vec<Draw>,
 }
 
-/// Hands of thirteen tiles, each with its node at the same place. What a hand leads to stands before it.
+/// Hands of thirteen tiles that have the same melds and see the same tiles, each with its node at the same place. What a hand leads
+/// to stands before it.
 #[derive(Drop)]
 pub(crate) struct Graph {
     pub alloc: Global,
@@ -29,7 +35,9 @@ pub(crate) struct Graph {
 
 impl Graph {
     /// No hands, and room for so many at most.
-    pub fn new(alloc: Global, most_hands: usize) -> Graph {
+    pub fn new(alloc: Global, most_hands: usize) -> Graph
+        ensures { (root : ShapeParts) → spec.IsGraph root result }
+    {
         Graph {
             alloc,
             most_hands,
@@ -39,23 +47,37 @@ impl Graph {
     }
 
     /// The place of a hand that was there before.
-    pub fn place_of(&self, hand: &[u8; 34]) -> Option<usize> {
-        self.hands.get_index_of(hand)
+    pub fn known(&self, asked: &ShapeRecord) -> Option<usize>
+        requires { spec.IsGraph asked.now self.now }
+        ensures { IfSome result (spec.IsPlaceOf self.now asked.now) }
+    {
+        self.hands.get_index_of(asked.tiles().as_array())
     }
 
-    /// Takes a new hand, and returns its place.
-    pub fn add(&mut self, hand: [u8; 34], node: Node) -> Result<usize, ChancesFault> {
-        let place = self.nodes.len();
-        if place >= self.most_hands {
+    /// Takes a hand with its node where it wasn't there before, and returns its place.
+    pub fn add(&mut self, asked: &ShapeRecord, node: Node) -> Result<usize, ChancesFault>
+        requires graph { spec.IsGraph asked.now self.old }
+        requires node { spec.IsNode self.old.hands.keys (length self.old.nodes.items) asked.now node }
+        ensures grows { OnOk result (spec.Grows asked.now self.old self.new) }
+        ensures place { IfOk result (spec.IsPlaceOf self.new asked.now) }
+    {
+        if self.nodes.len() >= self.most_hands {
             return Err(ChancesFault::TooManyHands);
         }
-        self.take(hand, node)?;
+        let place = self.take(asked, node)?;
         Ok(place)
     }
 
-    fn take(&mut self, hand: [u8; 34], node: Node) -> Result<(), AllocError> {
-        self.hands.insert(hand)?;
-        self.nodes.push(node)?;
-        Ok(())
+    fn take(&mut self, asked: &ShapeRecord, node: Node) -> Result<usize, AllocError>
+        requires graph { spec.IsGraph asked.now self.old }
+        requires node { spec.IsNode self.old.hands.keys (length self.old.nodes.items) asked.now node }
+        ensures grows { OnOk result (spec.Grows asked.now self.old self.new) }
+        ensures place { IfOk result (spec.IsPlaceOf self.new asked.now) }
+    {
+        let (place, is_new) = self.hands.insert_full(asked.tiles().to_array())?;
+        if is_new {
+            self.nodes.push(node)?;
+        }
+        Ok(place)
     }
 }

@@ -18,6 +18,7 @@
 mod building;
 mod chances;
 mod counting;
+mod discards;
 mod fault;
 mod goal;
 mod graph;
@@ -27,7 +28,8 @@ mod span;
 mod tiles;
 mod unseen;
 
-pub use chances::{Chances, DiscardChances, chances_of, discard_chances};
+pub use chances::{Chances, chances_of};
+pub use discards::{DiscardChances, discard_chances};
 pub use fault::ChancesFault;
 pub use goal::Goal;
 pub use span::MOST_TURNS;

@@ -1,4 +1,9 @@
 //! Numbers of draws for both goals.
+ghost use Rattle.std.specs.Prelude.{ℕ, ◌≡◌, ◌≤◌, slice_index};
+ghost use Rattle.riichi_chances.specs.Aims.{row_of};
+ghost use Rattle.riichi_chances.specs.Numbers as spec;
+ghost use Rattle.riichi_chances.specs.declared.goal.Goal.{Goal};
+
 use crate::span::{ByTurns, add_times, keep_greater};
 
 /// At each place the numbers of draws where so many turns are left: of those that bring a hand to be ready, and of those that win.
@@ -10,7 +15,9 @@ pub(crate) struct Rows {
 
 impl Rows {
     /// No draws.
-    pub fn none() -> Rows {
+    pub fn none() -> Rows
+        ensures { (goal : Goal) (left : ℕ) → slice_index (row_of goal result) left ≡ 0 }
+    {
         Rows {
             ready: [0; 19],
             win: [0; 19],
@@ -18,13 +25,19 @@ impl Rows {
     }
 
     /// Adds so many times each number.
-    pub fn add_times(&mut self, more: &Rows, times: u8, turns: u8) {
+    pub fn add_times(&mut self, more: &Rows, times: u8, turns: u8)
+        requires turns { turns ≤ 18 }
+        requires fits { (goal : Goal) → spec.FitTogether turns times (row_of goal more.now) (row_of goal self.old) }
+        ensures { (goal : Goal) → spec.AreAdded turns times (row_of goal more.now) (row_of goal self.old) (row_of goal self.new) }
+    {
         add_times(&mut self.ready, &more.ready, times, turns);
         add_times(&mut self.win, &more.win, times, turns);
     }
 
     /// Keeps of each two numbers the greater.
-    pub fn keep_greater(&mut self, other: &Rows) {
+    pub fn keep_greater(&mut self, other: &Rows)
+        ensures { (goal : Goal) → spec.AreGreater (row_of goal other.now) (row_of goal self.old) (row_of goal self.new) }
+    {
         keep_greater(&mut self.ready, &other.ready);
         keep_greater(&mut self.win, &other.win);
     }

@@ -1,0 +1,26 @@
+-- The chances of a hand for each number of turns.
+use Rattle.std.specs.Prelude.{◌≡◌, ℕ, ◌<◌, ◌≤◌, List, length, slice_index, slice_index_or}
+use Rattle.riichi_hand.specs.HandParts.{ShapeParts}
+use Rattle.riichi_chances.specs.Counted.{counted_draws}
+use Rattle.riichi_chances.specs.Draws.{all_draws, draws, unseen_of}
+use Rattle.riichi_deeper.specs.Drawn.{parts_without}
+use Rattle.riichi_chances.specs.declared.chances.Chances.{Chances}
+use Rattle.riichi_chances.specs.declared.discards.DiscardChances.{DiscardChances}
+
+-- for each number of turns up to one the draws that bring the hand to lack one tile at most, those that bring it to lack none, and all
+pub record AreChances (parts : ShapeParts) (turns : ℕ) (chances : Chances) : Type 0 where
+  pub ready : (count : ℕ) → count ≤ turns → slice_index chances.ready count ≡ draws 1 parts count
+  pub win : (count : ℕ) → count ≤ turns → slice_index chances.win count ≡ draws 0 parts count
+  pub all : (count : ℕ) → count ≤ turns → slice_index chances.all count ≡ all_draws (unseen_of parts) count
+  pub ready_few : (count : ℕ) → count ≤ turns → slice_index chances.ready count ≤ slice_index chances.all count
+  pub win_few : (count : ℕ) → count ≤ turns → slice_index chances.win count ≤ slice_index chances.all count
+
+-- the same by the hand, the turns and how many tiles are unseen
+pub record AreCounted (parts : ShapeParts) (unseen turns : ℕ) (chances : Chances) : Type 0 where
+  pub ready : (count : ℕ) → count ≤ turns → slice_index chances.ready count ≡ counted_draws 1 parts unseen count
+  pub win : (count : ℕ) → count ≤ turns → slice_index chances.win count ≡ counted_draws 0 parts unseen count
+  pub all : (count : ℕ) → count ≤ turns → slice_index chances.all count ≡ all_draws unseen count
+
+-- the chances after each of these discards
+abbrev pub AreAfter : ShapeParts → ℕ → List DiscardChances → Type 0
+AreAfter parts turns each = (place : ℕ) (one : DiscardChances) → place < length each → AreChances (parts_without parts (slice_index_or each place one).kind) turns (slice_index_or each place one).chances

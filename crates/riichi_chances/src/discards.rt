@@ -1,0 +1,78 @@
+//! The chances after each best discard.
+ghost use Rattle.std.specs.Prelude.{◌≡◌, ◌≤◌, ◌++◌, [], ◌∷◌, IfOk, OnOk, map};
+ghost use Rattle.riichi_hand.specs.Hand.{size};
+ghost use Rattle.riichi_shape.specs.Discards.{discards_of};
+ghost use Rattle.riichi_chances.specs.Chances as spec;
+
+use crate::chances::{Chances, chances_of};
+use crate::fault::ChancesFault;
+use riichi_deeper::without_tile;
+use riichi_hand::ShapeRecord;
+use riichi_shape::{Accepts, DiscardList, RowSource, shape_with};
+use riichi_tiles::Kind;
+use std::alloc::{AllocError, Global};
+
+/// The chances after a discard.
+#[derive(Clone, Copy, Debug, PartialEq, Eq, Drop)]
+pub struct DiscardChances {
+    pub kind: Kind,
+    pub chances: Chances,
+}
+
+/// The chances after each best discard of fourteen tiles, which is then seen, in the order of the discards of the hand's shape.
+pub fn discard_chances<R: RowSource>(
+    alloc: Global,
+    source: &mut R,
+    asked: &ShapeRecord,
+    turns: u8,
+    most_hands: usize,
+) -> Result<Vec<DiscardChances>, ChancesFault>
+    requires fourteen { size asked.now.tiles asked.now.melds ≡ 14 }
+    requires turns { turns ≤ 18 }
+    ensures each { IfOk result (λ each. map (λ one. one.kind) each.items ≡ map (λ discard. discard.kind) (discards_of asked.now.tiles asked.now.melds asked.now.seen)) }
+    ensures chances { IfOk result (λ each. spec.AreAfter asked.now turns each.items) }
+    ensures stays { source.new ≡ source.old }
+{
+    let answer = shape_with(source, asked);
+    match &answer.accepts {
+        Accepts::Fourteen(discards) => after_each(alloc, source, asked, discards, turns, most_hands),
+        Accepts::Thirteen(_) => unreachable!(),
+    }
+}
+
+fn after_each<R: RowSource>(
+    alloc: Global,
+    source: &mut R,
+    asked: &ShapeRecord,
+    discards: &DiscardList,
+    turns: u8,
+    most_hands: usize,
+) -> Result<Vec<DiscardChances>, ChancesFault>
+    requires fourteen { size asked.now.tiles asked.now.melds ≡ 14 }
+    requires discards { discards.now ≡ discards_of asked.now.tiles asked.now.melds asked.now.seen }
+    requires turns { turns ≤ 18 }
+    ensures each { IfOk result (λ each. map (λ one. one.kind) each.items ≡ map (λ discard. discard.kind) discards.now) }
+    ensures chances { IfOk result (λ each. spec.AreAfter asked.now turns each.items) }
+    ensures stays { source.new ≡ source.old }
+{
+    let mut each = Vec::new(alloc);
+    for at in 0..discards.len() {
+        match discards.short_at(at) {
+            Some(discard) => {
+                let kind = discard.kind;
+                let rest = without_tile(asked, kind);
+                let chances = chances_of(alloc, source, &rest, turns, most_hands)?;
+                keep(&mut each, DiscardChances { kind, chances })?;
+            }
+            None => unreachable!(),
+        }
+    }
+    Ok(each)
+}
+
+fn keep(each: &mut Vec<DiscardChances>, one: DiscardChances) -> Result<(), AllocError>
+    ensures { OnOk result (each.new.items ≡ each.old.items ++ one ∷ []) }
+{
+    each.push(one)?;
+    Ok(())
+}
