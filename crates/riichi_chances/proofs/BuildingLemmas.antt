@@ -75,7 +75,7 @@ pub record DrawsSoFar (parts : ShapeParts) (copies : List ℕ) (graph : Graph) (
   pub before : LeadBefore (length graph.nodes.items) draws
   pub leads : (value : ShapeParts → ℕ) → draws_value (λ p. value (hand_at parts graph.hands.keys p)) draws + rest_of (rest_by value parts) copies number ≡ rests_value value parts
 
-no_draws_before : (most : ℕ) → LeadBefore most []
+pub no_draws_before : (most : ℕ) → LeadBefore most []
 no_draws_before most at draw low = absurd (omega (arith, low))
 
 module _ (parts : ShapeParts) (copies : List ℕ) where

@@ -151,11 +151,11 @@ places_of-loop-at-preserved g t c =
     let before = c.loop-at.graph in
     let after = c.place_of.new.graph in
     let so_far = c.loop-at.invariant in
-    let grown = grows_root rest drawn before after (ap (λ (p : ShapeParts). p.melds) rest_is) (ap (λ (p : ShapeParts). p.seen) rest_is) c.in_ok-place.ensures.grows in
+    let grown = grows_root rest drawn before after (ap (λ (p : ShapeParts). p.melds) rest_is) (ap (λ (p : ShapeParts). p.seen) rest_is) c.in_ok-place-in-Some.ensures.grows in
     record {
       stays = c.place_of.ensures.stays ∙ so_far.stays;
       grows = grows_after drawn c.args.graph.now before after so_far.grows grown;
-      so_far = rests_step drawn c.args.discards.now before after so_far.grows.whole grown c.loop-at.at c.loop-at.places.items c.keep_place.new.places.items so_far.so_far c.in-Some.discard (sym c.in-Some.is ∙ c.short_at.ensures) rest rest_is c.in_ok-place.place c.in_ok-place.ensures.place c.in_ok-keep_place.ensures;
+      so_far = rests_step drawn c.args.discards.now before after so_far.grows.whole grown c.loop-at.at c.loop-at.places.items c.keep_place.new.places.items so_far.so_far c.in-Some.discard (sym c.in-Some.is ∙ c.short_at.ensures) rest rest_is c.in_ok-place-in-Some.place c.in_ok-place-in-Some.ensures.place c.in_ok-keep_place-in-Some.ensures;
     }
 
 pub places_of-returns-clause-rests : goal.places_of-returns-clause-rests

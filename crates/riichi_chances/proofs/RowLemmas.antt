@@ -1,0 +1,276 @@
+-- The rows of a hand by those of the hands that it leads to.
+use Rattle.std.proofs.Common.{◌≡◌, ℕ, zero, suc, ◌+◌, ◌-◌, ◌*◌, ◌^◌, ◌<◌, ◌≤◌, Bool, true, false, cond, max, inl, inr, List, [], ◌∷◌, ◌++◌, length, drop, get_or, refl, sym, ap, subst, ◌∙◌, ⊎_elim, arith, length-append}
+use Rattle.std.proofs.lemmas.Bool.{and_parts, cases_eq, eq-eqb, leb-false, ltb-true}
+use Rattle.std.proofs.lemmas.Bool.Decides.{nat_tests}
+use Rattle.std.proofs.lemmas.List.{drop_all, get_or_append_left, get_or_default, get_or_push}
+use Rattle.std.proofs.lemmas.List.Sums.{sum_by-cons, sum_by-drop_more}
+use Rattle.std.specs.List.{filter}
+use Rattle.std.specs.Prelude.{nat_le, nat_lt, slice_index, slice_index_or, sum_by}
+use Rattle.riichi_hand.specs.Hand.{size}
+use Rattle.riichi_hand.specs.HandParts.{ShapeParts}
+use Rattle.riichi_tiles.specs.Melds.{every_kind}
+use Rattle.riichi_tiles.proofs.Members.{IsIn, in-filter, in-filter-inv, in-map-inv, in-range, in-range-inv}
+use Rattle.riichi_shape.specs.Accepted.{accepted_of, is_accepted, live_of, with_one}
+use Rattle.riichi_shape.specs.Discards.{distance_without, is_discard}
+use Rattle.riichi_shape.specs.EveryWinning.{distance_of}
+use Rattle.riichi_shape.specs.LiveCopies.{live_in}
+use Rattle.riichi_shape.proofs.LeastLeft.{least_is}
+use Rattle.riichi_shape.proofs.Nearer.{distance_reached}
+use Rattle.riichi_shape.proofs.ReadyLemmas.{ready_is}
+use Rattle.riichi_shape.proofs.RemovalLemmas.{chosen_is}
+use Rattle.riichi_deeper.proofs.DrawnLemmas.{size_with}
+use Rattle.riichi_deeper.specs.Drawn.{parts_with}
+use Rattle.riichi_chances.specs.Aims.{Aim, HasRows, draws_at, lack_of, row_of}
+use Rattle.riichi_chances.specs.Counted.{accepted_draws, accepts, counted_by, counted_draws, counted_rest, counted_with, parts_less}
+use Rattle.riichi_chances.specs.Draws.{all_draws, greatest, is_there}
+use Rattle.riichi_chances.specs.Graph.{AreRows, IsGraph, IsNode, LeadBefore, draw_value, draws_value, hand_at, no_rows, number_at, rest_by, rests_value}
+use Rattle.riichi_chances.specs.Laws.{IsFourteen, IsThirteen}
+use Rattle.riichi_chances.specs.Numbers.{AreAdded, AreAllDraws, AreGreater, BeginWith, FitTogether, Follow, FollowReady, most_draws, unseen_at}
+use Rattle.riichi_chances.specs.declared.goal.Goal.{Goal}
+use Rattle.riichi_chances.specs.declared.goal.Goal.TheVariants.{Ready, Win}
+use Rattle.riichi_chances.specs.declared.graph.Draw.{Draw}
+use Rattle.riichi_chances.specs.declared.graph.Graph.{Graph}
+use Rattle.riichi_chances.specs.declared.graph.Node.{Node}
+use Rattle.riichi_chances.specs.declared.rows.Rows.{Rows}
+use Rattle.riichi_chances.specs.declared.span.Span.{Span}
+use Rattle.riichi_chances.proofs.BoundLemmas.{all_few, times_few}
+use Rattle.riichi_chances.proofs.BuildingLemmas.{one_nearer}
+use Rattle.riichi_chances.proofs.CountingLemmas.{far_with, followed, gains_at, gains_bound, near_counted, near_with}
+use Rattle.riichi_chances.proofs.GraphLemmas.{draws_same, greatest_drop, greatest_none}
+use Rattle.riichi_chances.proofs.NearestLemmas.{best_keeps, more_long}
+use Rattle.riichi_chances.proofs.SpanLemmas.{next_fits}
+use Rattle.riichi_chances.proofs.SumLemmas.{greatest_few}
+
+-- ---- the numbers of a ready hand
+
+module _ (span : Span) (live : ℕ) (turns : span.turns ≤ 18) (unseen : span.unseen ≤ 136) (few : live ≤ 136) (sums all : List ℕ) (none : (left : ℕ) → slice_index sums left ≡ 0) (are : AreAllDraws span all) where
+  wins_few : (left : ℕ) → left < span.turns → live * slice_index all left ≤ live * most_draws left
+  wins_few left low = times_few live live (slice_index all left) (most_draws left) (omega arith) (omega (arith, are left (omega (arith, low)), all_few (unseen_at span left) left (omega (arith, unseen))))
+
+  pub ready_fits : FitTogether span.turns live all sums
+  ready_fits left low = next_fits left span.turns (slice_index sums left + live * slice_index all left) low turns (omega (arith, none left, wins_few left low, times_few live 136 (most_draws left) (most_draws left) few (omega arith)))
+
+  module _ (after : List ℕ) (added : AreAdded span.turns live all sums after) where
+    pub ready_begin : BeginWith span live after
+    ready_begin left low = omega (arith, added left low, none left, wins_few left low)
+
+    pub ready_follow : (row : List ℕ) → Follow span live after row → FollowReady span live row
+    ready_follow row follows left low = omega (arith, follows left low, added left low, none left, ap (λ n. live * n) (are left (omega (arith, low))))
+
+-- ---- the greatest of some places
+
+pub record BestSoFar (earlier : List Rows) (places : List ℕ) (best : Rows) (at : ℕ) : Type 0 where
+  pub at : (goal : Goal) (left : ℕ) → max (slice_index (row_of goal best) left) (greatest (number_at goal earlier left) (drop at places)) ≡ greatest (number_at goal earlier left) places
+
+module _ (earlier : List Rows) (places : List ℕ) where
+  pub best_init : (best : Rows) → ((goal : Goal) (left : ℕ) → slice_index (row_of goal best) left ≡ 0) → BestSoFar earlier places best 0
+  best_init best none = record { at = λ goal left. none_max (slice_index (row_of goal best) left) (greatest (number_at goal earlier left) places) (none goal left) }
+    where
+      none_max : (a b : ℕ) → a ≡ 0 → max a b ≡ b
+      none_max a b e = omega arith
+
+  pub best_step : (best after other : Rows) (at place : ℕ) → at < length places → place ≡ get_or places at place → place < length earlier → other ≡ slice_index_or earlier place other → ((goal : Goal) → AreGreater (row_of goal other) (row_of goal best) (row_of goal after)) → BestSoFar earlier places best at → BestSoFar earlier places after (at + 1)
+  best_step best after other at place low place_is inside other_is greater so_far = record {
+    at = λ goal left.
+        up (slice_index (row_of goal after) left) (slice_index (row_of goal best) left) (slice_index (row_of goal other) left) (number_at goal earlier left place) (greatest (number_at goal earlier left) (drop at places)) (greatest (number_at goal earlier left) (drop (at + 1) places)) (greater goal left)
+        (ap (λ (rows : Rows). slice_index (row_of goal rows) left) (other_is ∙ get_or_default earlier place other no_rows inside)) (greatest_drop (number_at goal earlier left) places at place low place_is)
+        ∙ so_far.at goal left;
+  }
+    where
+      up : (a b o n m r : ℕ) → a ≡ max b o → o ≡ n → m ≡ max n r → max a r ≡ max b m
+      up a b o n m r e f g = omega arith
+
+  pub best_end : (best : Rows) (at : ℕ) → length places ≤ at → BestSoFar earlier places best at → (goal : Goal) (left : ℕ) → slice_index (row_of goal best) left ≡ greatest (number_at goal earlier left) places
+  best_end best at past so_far goal left =
+      last (slice_index (row_of goal best) left) (greatest (number_at goal earlier left) (drop at places)) (ap (greatest (number_at goal earlier left)) (drop_all at places past) ∙ greatest_none (number_at goal earlier left)) ∙ so_far.at goal left
+    where
+      last : (a r : ℕ) → r ≡ 0 → a ≡ max a r
+      last a r e = omega arith
+
+-- ---- the sums over some draws
+
+pub record SumsSoFar (earlier : List Rows) (draws : List Draw) (turns : ℕ) (sums : Rows) (at : ℕ) : Type 0 where
+  pub at : (goal : Goal) (left : ℕ) → left < turns → slice_index (row_of goal sums) left + draws_value (number_at goal earlier left) (drop at draws) ≡ draws_value (number_at goal earlier left) draws
+
+module _ (earlier : List Rows) (draws : List Draw) (turns : ℕ) where
+  pub sums_init : (sums : Rows) → ((goal : Goal) (left : ℕ) → slice_index (row_of goal sums) left ≡ 0) → SumsSoFar earlier draws turns sums 0
+  sums_init sums none = record { at = λ goal left low. omega (arith, none goal left) }
+
+  module _ (sums best : Rows) (at : ℕ) (low : at < length draws) (draw : Draw) (draw_is : draw ≡ get_or draws at draw) (best_is : (goal : Goal) (left : ℕ) → slice_index (row_of goal best) left ≡ greatest (number_at goal earlier left) draw.rests.items) (so_far : SumsSoFar earlier draws turns sums at) where
+    own : (goal : Goal) (left : ℕ) → draws_value (number_at goal earlier left) (drop at draws) ≡ draw.live * slice_index (row_of goal best) left + draws_value (number_at goal earlier left) (drop (at + 1) draws)
+    own goal left =
+        sum_by-drop_more (draw_value (number_at goal earlier left)) draws at draw low ∙ ap (λ (d : Draw). draw_value (number_at goal earlier left) d + draws_value (number_at goal earlier left) (drop (at + 1) draws)) (sym draw_is)
+        ∙ ap (λ n. draw.live * n + draws_value (number_at goal earlier left) (drop (at + 1) draws)) (sym (best_is goal left))
+
+    pub sums_fit : ((goal : Goal) (left : ℕ) → left < turns → draws_value (number_at goal earlier left) draws < 2 ^ 128) → (goal : Goal) → FitTogether turns draw.live (row_of goal best) (row_of goal sums)
+    sums_fit fits goal left small = omega (arith, own goal left, so_far.at goal left small, fits goal left small)
+
+    pub sums_step : (after : Rows) → ((goal : Goal) → AreAdded turns draw.live (row_of goal best) (row_of goal sums) (row_of goal after)) → SumsSoFar earlier draws turns after (at + 1)
+    sums_step after added = record { at = λ goal left small. omega (arith, added goal left small, own goal left, so_far.at goal left small) }
+
+  pub sums_end : (sums : Rows) (at : ℕ) → length draws ≤ at → SumsSoFar earlier draws turns sums at → (goal : Goal) (left : ℕ) → left < turns → slice_index (row_of goal sums) left ≡ draws_value (number_at goal earlier left) draws
+  sums_end sums at past so_far goal left small = omega (arith, so_far.at goal left small, ap (draws_value (number_at goal earlier left)) (drop_all at draws past), nothing (number_at goal earlier left))
+    where
+      nothing : (f : ℕ → ℕ) → draws_value f [] ≡ 0
+      nothing f = refl
+
+-- ---- what a hand accepts
+
+sum_same : (f g : ℕ × ℕ → ℕ) (pairs : List (ℕ × ℕ)) → ((pair : ℕ × ℕ) → IsIn pair pairs → f pair ≡ g pair) → sum_by f pairs ≡ sum_by g pairs
+sum_same f g [] same = refl
+sum_same f g (pair ∷ pairs) same = sum_by-cons f pair pairs ∙ ap (λ n. n + sum_by f pairs) (same pair (inl refl)) ∙ ap (λ n. g pair + n) (sum_same f g pairs (λ p i. same p (inr i))) ∙ sym (sum_by-cons g pair pairs)
+
+sum_times : (n : ℕ) (pairs : List (ℕ × ℕ)) → sum_by (λ (pair : ℕ × ℕ). pair.1 * n) pairs ≡ sum_by (λ (pair : ℕ × ℕ). pair.1) pairs * n
+sum_times n [] = omega arith
+sum_times n (pair ∷ pairs) = add (pair.1) (sum_by (λ (p : ℕ × ℕ). p.1) pairs) (sum_by-cons (λ (p : ℕ × ℕ). p.1 * n) pair pairs) (sum_by-cons (λ (p : ℕ × ℕ). p.1) pair pairs) (sum_times n pairs)
+  where
+    add : {s t r : ℕ} (l m : ℕ) → s ≡ l * n + r → t ≡ l + m → r ≡ m * n → s ≡ t * n
+    add {s} {t} {r} l m e f h = e ∙ ap (λ x. l * n + x) h ∙ both ∙ ap (λ x. x * n) (sym f)
+      where
+        both : l * n + m * n ≡ (l + m) * n
+        both = omega arith
+
+-- a kind of the list brings the hand nearer
+accepted_in : (parts : ShapeParts) (pair : ℕ × ℕ) → IsIn pair (accepts parts) → (pair.0 < 34) × (distance_of (with_one parts.tiles pair.0) parts.melds < distance_of parts.tiles parts.melds)
+unfolding accepted_of
+accepted_in parts pair there =
+    let live : ℕ → ℕ = live_of parts.tiles parts.melds parts.seen in
+    let made = in-map-inv (λ k. (k, live k)) pair (filter (is_accepted parts.tiles parts.melds parts.seen) every_kind) there in
+    let kept = in-filter-inv (is_accepted parts.tiles parts.melds parts.seen) made.0 every_kind made.1 in
+    let same_kind : made.0 ≡ pair.0 = ap (λ (p : ℕ × ℕ). p.0) made.2 in
+    let tests = and_parts (nat_lt 0 (live made.0)) (nat_lt (distance_of (with_one parts.tiles made.0) parts.melds) (distance_of parts.tiles parts.melds)) kept.1 in
+    let nearer = ltb-true (distance_of (with_one parts.tiles made.0) parts.melds) (distance_of parts.tiles parts.melds) tests.1 in
+    (omega (arith, (in-range-inv 34 0 made.0 kept.0).1, same_kind), omega (arith, nearer, ap (λ k. distance_of (with_one parts.tiles k) parts.melds) same_kind))
+
+-- ---- fourteen tiles that aren't complete: some discard is best, and it leaves as near
+
+greatest_some : (f : ℕ → ℕ) (kinds : List ℕ) (kind : ℕ) → IsIn kind kinds → f kind ≤ greatest f kinds
+unfolding greatest
+greatest_some f [] kind there = absurd there
+greatest_some f (k ∷ ks) kind (inl e) = omega (arith, ap f e)
+greatest_some f (k ∷ ks) kind (inr there) = omega (arith, greatest_some f ks kind there)
+
+greatest_all : (f : ℕ → ℕ) (v : ℕ) (kinds : List ℕ) (kind : ℕ) → IsIn kind kinds → ((k : ℕ) → IsIn k kinds → f k ≡ v) → greatest f kinds ≡ v
+greatest_all f v kinds kind there same = omega (arith, greatest_some f kinds kind there, same kind there, greatest_few f v kinds (λ k i. omega (arith, same k i)))
+
+module _ (drawn : ShapeParts) (is : IsFourteen drawn) (far : 0 < distance_of drawn.tiles drawn.melds) where
+  abbrev kinds : List ℕ
+  kinds = filter (is_discard drawn.tiles drawn.melds) every_kind
+
+  some_best : (kind : ℕ) × IsIn kind kinds
+  some_best =
+      let least = max (distance_of drawn.tiles drawn.melds) 1 in
+      let left = least_is drawn.tiles drawn.melds is.each_kind is.fourteen is.melded (distance_of drawn.tiles drawn.melds) least refl refl in
+      (left.place, in-filter (is_discard drawn.tiles drawn.melds) left.place every_kind (in-range 34 0 left.place (omega arith) (omega (arith, left.is_kind))) (sym (chosen_is drawn.tiles drawn.melds least left left.place left.is_kind left.held) ∙ eq-eqb (distance_without drawn.tiles drawn.melds left.place) least left.reached))
+
+  as_near : (kind : ℕ) → IsIn kind kinds → distance_without drawn.tiles drawn.melds kind ≡ distance_of drawn.tiles drawn.melds
+  as_near kind there =
+      let chosen = in-filter-inv (is_discard drawn.tiles drawn.melds) kind every_kind there in
+      best_keeps drawn.tiles drawn.melds is.each_kind is.fourteen is.melded kind (omega (arith, (in-range-inv 34 0 kind chosen.0).1)) chosen.1 far
+
+  module _ (aim : Aim) (left : ℕ) where
+    all_rest : is_there (lack_of aim.goal) drawn ≡ true → counted_rest (draws_at aim left) drawn ≡ all_draws (unseen_at aim.span left) left
+    unfolding counted_rest
+    all_rest near = greatest_all (λ kind. draws_at aim left (parts_less drawn kind)) (all_draws (unseen_at aim.span left) left) kinds some_best.0 some_best.1
+        (λ kind there. near_counted (lack_of aim.goal) (parts_less drawn kind) (unseen_at aim.span left) left (ap (λ d. nat_le d (lack_of aim.goal)) (as_near kind there) ∙ near))
+
+    pub by_rest : counted_with (lack_of aim.goal) (unseen_at aim.span left) left (draws_at aim left) drawn ≡ counted_rest (draws_at aim left) drawn
+    by_rest = by_test (is_there (lack_of aim.goal) drawn) (λ near. near_with (lack_of aim.goal) (unseen_at aim.span left) left (draws_at aim left) drawn near ∙ sym (all_rest near)) (λ not. far_with (lack_of aim.goal) (unseen_at aim.span left) left (draws_at aim left) drawn not)
+      where
+        by_test : {a b : ℕ} (t : Bool) → (t ≡ true → a ≡ b) → (t ≡ false → a ≡ b) → a ≡ b
+        by_test true here there = here refl
+        by_test false here there = there refl
+
+-- ---- thirteen tiles
+
+few_melds : (parts : ShapeParts) → IsThirteen parts → length parts.melds ≤ 4
+few_melds parts is = omega (arith, is.thirteen)
+
+some_lack : (parts : ShapeParts) → IsThirteen parts → 0 < distance_of parts.tiles parts.melds
+some_lack parts is = (ready_is parts.tiles parts.melds (distance_of parts.tiles parts.melds) is.each_kind is.thirteen (distance_reached parts.tiles parts.melds (few_melds parts is) is.melded)).0
+
+not_won : (d : ℕ) → 0 < d → nat_le d 0 ≡ false
+not_won d some = grind (arith, nat_tests)
+
+won : (d : ℕ) → d ≡ 0 → nat_le d 0 ≡ true
+won d e = grind (arith, nat_tests)
+
+is_ready_told : (d : ℕ) → nat_le d 1 ≡ true → d ≤ 1
+is_ready_told d e = grind (arith, nat_tests)
+
+not_near : (d lack : ℕ) → 1 < d → lack ≤ 1 → nat_le d lack ≡ false
+not_near d lack more few = grind (arith, nat_tests)
+
+lack_few : (goal : Goal) → lack_of goal ≤ 1
+lack_few Ready = omega arith
+lack_few Win = omega arith
+
+-- a hand that isn't ready: each draw that it accepts leads to what a best discard leaves
+pub rests_gains : (aim : Aim) (parts : ShapeParts) (left : ℕ) → IsThirteen parts → 1 < distance_of parts.tiles parts.melds → rests_value (draws_at aim left) parts ≡ gains_at aim parts left
+unfolding accepted_draws
+rests_gains aim parts left is far =
+    sum_same (rest_by (draws_at aim left) parts) (counted_by (lack_of aim.goal) (unseen_at aim.span left) left (draws_at aim left) parts) (accepts parts) (λ pair there. ap (λ n. pair.1 * n) (sym (each pair there)))
+  where
+    each : (pair : ℕ × ℕ) → IsIn pair (accepts parts) → counted_with (lack_of aim.goal) (unseen_at aim.span left) left (draws_at aim left) (parts_with parts pair.0) ≡ counted_rest (draws_at aim left) (parts_with parts pair.0)
+    each pair there =
+        let inside = (accepted_in parts pair there).0 in
+        by_rest (parts_with parts pair.0) (record { each_kind = more_long parts.tiles pair.0 is.each_kind; each_seen = is.each_seen; fourteen = omega (arith, size_with parts.tiles parts.melds pair.0 (omega (arith, is.each_kind, inside)), is.thirteen); melded = is.melded })
+        (omega (arith, far, one_nearer parts.tiles parts.melds (few_melds parts is) is.melded is.each_kind pair.0 inside)) aim left
+
+-- a ready hand wins by each
+ready_gains : (span : Span) (parts : ShapeParts) (left : ℕ) → IsThirteen parts → nat_le (distance_of parts.tiles parts.melds) 1 ≡ true → live_in (accepts parts) * all_draws (unseen_at span left) left ≡ gains_at (record { goal = Win; span = span }) parts left
+unfolding accepted_draws
+ready_gains span parts left is ready =
+    let aim : Aim = record { goal = Win; span = span } in
+    sym (sum_times (all_draws (unseen_at span left) left) (accepts parts))
+    ∙ sum_same (λ (pair : ℕ × ℕ). pair.1 * all_draws (unseen_at span left) left) (counted_by 0 (unseen_at span left) left (draws_at aim left) parts) (accepts parts) (λ pair there. ap (λ n. pair.1 * n) (sym (near_with 0 (unseen_at span left) left (draws_at aim left) (parts_with parts pair.0) (won_by pair there))))
+  where
+    won_by : (pair : ℕ × ℕ) → IsIn pair (accepts parts) → is_there 0 (parts_with parts pair.0) ≡ true
+    won_by pair there = won (distance_of (with_one parts.tiles pair.0) parts.melds) (omega (arith, (accepted_in parts pair there).1, is_ready_told (distance_of parts.tiles parts.melds) ready))
+
+pub ready_has : (span : Span) (parts : ShapeParts) (live : ℕ) (rows : Rows) → IsThirteen parts → nat_le (distance_of parts.tiles parts.melds) 1 ≡ true → live ≡ live_in (accepts parts) → AreAllDraws span rows.ready → slice_index rows.win 0 ≡ 0 → FollowReady span live rows.win → HasRows span parts rows
+ready_has span parts live rows is ready live_is all none follows Ready left low = all left low ∙ sym (near_counted 1 parts (unseen_at span left) left ready)
+ready_has span parts live rows is ready live_is all none follows Win left low =
+    followed (record { goal = Win; span = span }) parts (not_won (distance_of parts.tiles parts.melds) (some_lack parts is)) live live_is (λ l. live * all_draws (unseen_at span l) l) rows.win
+    (λ l small. ap (λ n. n * all_draws (unseen_at span l) l) live_is ∙ ready_gains span parts l is ready) none follows left low
+
+-- ---- the rows of a place
+
+module _ (span : Span) (turns : span.turns ≤ 18) (unseen : span.unseen ≤ 136) (root : ShapeParts) (hands : List (List ℕ)) (place : ℕ) (node : Node) (is : IsNode hands place (hand_at root hands place) node) (earlier : List Rows) (all_before : length earlier ≡ place) (are : AreRows span root hands earlier) (not_ready : node.is_ready ≡ false) where
+  abbrev parts : ShapeParts
+  parts = hand_at root hands place
+
+  abbrev aim_of : Goal → Aim
+  aim_of goal = record { goal = goal; span = span }
+
+  far_away : 1 < distance_of parts.tiles parts.melds
+  far_away = omega (arith, leb-false (distance_of parts.tiles parts.melds) 1 (sym is.ready ∙ not_ready))
+
+  pub gains_told : (goal : Goal) (left : ℕ) → left < span.turns → draws_value (number_at goal earlier left) node.draws.items ≡ gains_at (aim_of goal) parts left
+  gains_told goal left low =
+      draws_same (number_at goal earlier left) (λ p. draws_at (aim_of goal) left (hand_at parts hands p)) place node.draws.items is.before (λ p small. are p (omega (arith, small, all_before)) goal left (omega (arith, low)))
+      ∙ is.leads not_ready (draws_at (aim_of goal) left) ∙ rests_gains (aim_of goal) parts left is.whole far_away
+
+  pub gains_few : (goal : Goal) (left : ℕ) → left < span.turns → draws_value (number_at goal earlier left) node.draws.items ≤ node.live * most_draws left
+  gains_few goal left low = omega (arith, gains_told goal left low, gains_bound (aim_of goal) parts node.live unseen (omega (arith, is.live)) left)
+
+  pub gains_fit : node.live ≤ 136 → (goal : Goal) (left : ℕ) → left < span.turns → draws_value (number_at goal earlier left) node.draws.items < 2 ^ 128
+  gains_fit few goal left low = next_fits left span.turns (draws_value (number_at goal earlier left) node.draws.items) low turns (omega (arith, gains_few goal left low, times_few node.live 136 (most_draws left) (most_draws left) few (omega arith)))
+
+  pub followed_row : (goal : Goal) (begun row : List ℕ) → ((left : ℕ) → left < span.turns → slice_index begun left ≡ draws_value (number_at goal earlier left) node.draws.items) → slice_index row 0 ≡ 0 → Follow span node.live begun row → (left : ℕ) → left ≤ span.turns → slice_index row left ≡ draws_at (aim_of goal) left parts
+  followed_row goal begun row begun_is none follows =
+      followed (aim_of goal) parts (not_near (distance_of parts.tiles parts.melds) (lack_of goal) far_away (lack_few goal)) node.live is.live (slice_index begun) row (λ l small. begun_is l small ∙ gains_told goal l small) none follows
+
+-- ---- one more place
+
+pub rows_more : (span : Span) (root : ShapeParts) (hands : List (List ℕ)) (rows after : List Rows) (place : ℕ) (row : Rows) → AreRows span root hands rows → length rows ≡ place → HasRows span (hand_at root hands place) row → after ≡ rows ++ row ∷ [] → AreRows span root hands after
+rows_more span root hands rows after place row are long has after_is = subst (AreRows span root hands) (sym after_is) each
+  where
+    each : AreRows span root hands (rows ++ row ∷ [])
+    each p low = ⊎_elim here (λ ne. other (omega (arith, low, ne, long, length-append rows (row ∷ [])))) (cases_eq p place)
+      where
+        other : p < length rows → HasRows span (hand_at root hands p) (slice_index_or (rows ++ row ∷ []) p no_rows)
+        other less = subst (HasRows span (hand_at root hands p)) (sym (get_or_append_left rows (row ∷ []) no_rows p less)) (are p less)
+
+        here : p ≡ place → HasRows span (hand_at root hands p) (slice_index_or (rows ++ row ∷ []) p no_rows)
+        here e = subst (λ (it : Rows). HasRows span (hand_at root hands p) it) (sym (get_or_push rows row no_rows p (long ∙ sym e))) (subst (λ (q : ℕ). HasRows span (hand_at root hands q) row) (sym e) has)
