@@ -59,8 +59,8 @@ module _ (span : Span) (live : ℕ) (turns : span.turns ≤ 18) (unseen : span.u
 
 -- ---- the greatest of some places
 
-pub record BestSoFar (earlier : List Rows) (places : List ℕ) (best : Rows) (at : ℕ) : Type 0 where
-  pub at : (goal : Goal) (left : ℕ) → max (slice_index (row_of goal best) left) (greatest (number_at goal earlier left) (drop at places)) ≡ greatest (number_at goal earlier left) places
+pub record BestSoFar (earlier : List Rows) (places : List ℕ) (best : Rows) (done : ℕ) : Type 0 where
+  pub at : (goal : Goal) (left : ℕ) → max (slice_index (row_of goal best) left) (greatest (number_at goal earlier left) (drop done places)) ≡ greatest (number_at goal earlier left) places
 
 module _ (earlier : List Rows) (places : List ℕ) where
   pub best_init : (best : Rows) → ((goal : Goal) (left : ℕ) → slice_index (row_of goal best) left ≡ 0) → BestSoFar earlier places best 0
@@ -69,11 +69,11 @@ module _ (earlier : List Rows) (places : List ℕ) where
       none_max : (a b : ℕ) → a ≡ 0 → max a b ≡ b
       none_max a b e = omega arith
 
-  pub best_step : (best after other : Rows) (at place : ℕ) → at < length places → place ≡ get_or places at place → place < length earlier → other ≡ slice_index_or earlier place other → ((goal : Goal) → AreGreater (row_of goal other) (row_of goal best) (row_of goal after)) → BestSoFar earlier places best at → BestSoFar earlier places after (at + 1)
-  best_step best after other at place low place_is inside other_is greater so_far = record {
+  pub best_step : (best after other : Rows) (at place : ℕ) → at < length places → place ≡ get_or places at place → place < length earlier → ((goal : Goal) → AreGreater (row_of goal (slice_index_or earlier place other)) (row_of goal best) (row_of goal after)) → BestSoFar earlier places best at → BestSoFar earlier places after (at + 1)
+  best_step best after other at place low place_is inside greater so_far = record {
     at = λ goal left.
-        up (slice_index (row_of goal after) left) (slice_index (row_of goal best) left) (slice_index (row_of goal other) left) (number_at goal earlier left place) (greatest (number_at goal earlier left) (drop at places)) (greatest (number_at goal earlier left) (drop (at + 1) places)) (greater goal left)
-        (ap (λ (rows : Rows). slice_index (row_of goal rows) left) (other_is ∙ get_or_default earlier place other no_rows inside)) (greatest_drop (number_at goal earlier left) places at place low place_is)
+        up (slice_index (row_of goal after) left) (slice_index (row_of goal best) left) (slice_index (row_of goal (slice_index_or earlier place other)) left) (number_at goal earlier left place) (greatest (number_at goal earlier left) (drop at places)) (greatest (number_at goal earlier left) (drop (at + 1) places)) (greater goal left)
+        (ap (λ (rows : Rows). slice_index (row_of goal rows) left) (get_or_default earlier place other no_rows inside)) (greatest_drop (number_at goal earlier left) places at place low place_is)
         ∙ so_far.at goal left;
   }
     where
@@ -89,8 +89,8 @@ module _ (earlier : List Rows) (places : List ℕ) where
 
 -- ---- the sums over some draws
 
-pub record SumsSoFar (earlier : List Rows) (draws : List Draw) (turns : ℕ) (sums : Rows) (at : ℕ) : Type 0 where
-  pub at : (goal : Goal) (left : ℕ) → left < turns → slice_index (row_of goal sums) left + draws_value (number_at goal earlier left) (drop at draws) ≡ draws_value (number_at goal earlier left) draws
+pub record SumsSoFar (earlier : List Rows) (draws : List Draw) (turns : ℕ) (sums : Rows) (done : ℕ) : Type 0 where
+  pub at : (goal : Goal) (left : ℕ) → left < turns → slice_index (row_of goal sums) left + draws_value (number_at goal earlier left) (drop done draws) ≡ draws_value (number_at goal earlier left) draws
 
 module _ (earlier : List Rows) (draws : List Draw) (turns : ℕ) where
   pub sums_init : (sums : Rows) → ((goal : Goal) (left : ℕ) → slice_index (row_of goal sums) left ≡ 0) → SumsSoFar earlier draws turns sums 0
