@@ -1,6 +1,7 @@
 pub mod BoundLemmas
 pub mod BuildingLemmas
 pub mod ChanceLemmas
+pub mod ChancesLemmas
 pub mod CountedLemmas
 pub mod CountingLemmas
 pub mod GraphLemmas

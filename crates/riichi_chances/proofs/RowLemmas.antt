@@ -33,7 +33,7 @@ use Rattle.riichi_chances.specs.declared.graph.Graph.{Graph}
 use Rattle.riichi_chances.specs.declared.graph.Node.{Node}
 use Rattle.riichi_chances.specs.declared.rows.Rows.{Rows}
 use Rattle.riichi_chances.specs.declared.span.Span.{Span}
-use Rattle.riichi_chances.proofs.BoundLemmas.{all_few, times_few}
+use Rattle.riichi_chances.proofs.BoundLemmas.{accepted_few, all_few, times_few}
 use Rattle.riichi_chances.proofs.BuildingLemmas.{one_nearer}
 use Rattle.riichi_chances.proofs.CountingLemmas.{far_with, followed, gains_at, gains_bound, near_counted, near_with}
 use Rattle.riichi_chances.proofs.GraphLemmas.{draws_same, greatest_drop, greatest_none}
@@ -260,6 +260,16 @@ module _ (span : Span) (turns : span.turns ≤ 18) (unseen : span.unseen ≤ 136
   pub followed_row : (goal : Goal) (begun row : List ℕ) → ((left : ℕ) → left < span.turns → slice_index begun left ≡ draws_value (number_at goal earlier left) node.draws.items) → slice_index row 0 ≡ 0 → Follow span node.live begun row → (left : ℕ) → left ≤ span.turns → slice_index row left ≡ draws_at (aim_of goal) left parts
   followed_row goal begun row begun_is none follows =
       followed (aim_of goal) parts (not_near (distance_of parts.tiles parts.melds) (lack_of goal) far_away (lack_few goal)) node.live is.live (slice_index begun) row (λ l small. begun_is l small ∙ gains_told goal l small) none follows
+
+  pub followed_rows : (begun rows : Rows) → ((goal : Goal) (left : ℕ) → left < span.turns → slice_index (row_of goal begun) left ≡ draws_value (number_at goal earlier left) node.draws.items) → slice_index rows.ready 0 ≡ 0 → slice_index rows.win 0 ≡ 0 → Follow span node.live begun.ready rows.ready → Follow span node.live begun.win rows.win → HasRows span parts rows
+  followed_rows begun rows begun_is none no_win follows wins Ready = followed_row Ready begun.ready rows.ready (begun_is Ready) none follows
+  followed_rows begun rows begun_is none no_win follows wins Win = followed_row Win begun.win rows.win (begun_is Win) no_win wins
+
+pub node_at : (root : ShapeParts) (graph : Graph) (place : ℕ) (node : Node) → IsGraph root graph → place < length graph.nodes.items → node ≡ slice_index_or graph.nodes.items place node → IsNode graph.hands.keys place (hand_at root graph.hands.keys place) node
+node_at root graph place node is inside node_is = subst (λ (it : Node). IsNode graph.hands.keys place (hand_at root graph.hands.keys place) it) (sym node_is) (is.node place node inside)
+
+pub live_few : (hands : List (List ℕ)) (place : ℕ) (parts : ShapeParts) (node : Node) → IsNode hands place parts node → node.live ≤ 136
+live_few hands place parts node is = omega (arith, is.live, accepted_few parts)
 
 -- ---- one more place
 
