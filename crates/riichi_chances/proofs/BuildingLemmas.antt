@@ -1,5 +1,5 @@
 -- The draws of a hand and the places that they lead to, one more at a time.
-use Rattle.std.proofs.Common.{◌≡◌, ℕ, suc, ◌+◌, ◌*◌, ◌<◌, ◌≤◌, true, max, List, [], ◌∷◌, ◌++◌, length, Some, get_or, refl, sym, ap, subst, ◌∙◌, ⊎_elim, arith, length-append}
+use Rattle.std.proofs.Common.{◌≡◌, ℕ, ◌+◌, ◌*◌, ◌<◌, ◌≤◌, true, max, List, [], ◌∷◌, ◌++◌, length, Some, sym, ap, subst, ◌∙◌, ⊎_elim, arith, length-append}
 use Rattle.std.proofs.lemmas.Bool.{cases_eq}
 use Rattle.std.proofs.lemmas.List.{get_or_append_left, get_or_push}
 use Rattle.std.proofs.lemmas.List.Sums.{sum_by_push}
@@ -21,7 +21,7 @@ use Rattle.riichi_shape.proofs.OneMore.{hand_falls}
 use Rattle.riichi_deeper.proofs.DeeperLemmas.{rest_all, rest_end, rest_none, rest_of, rest_some}
 use Rattle.riichi_deeper.proofs.DrawnLemmas.{is_thirteen_by, thirteen_is}
 use Rattle.riichi_deeper.specs.Drawn.{parts_with}
-use Rattle.riichi_chances.specs.Counted.{accepts, counted_rest, parts_less}
+use Rattle.riichi_chances.specs.Counted.{counted_rest, parts_less}
 use Rattle.riichi_chances.specs.Draws.{greatest}
 use Rattle.riichi_chances.specs.Graph.{AreBefore, AreRests, Grows, IsGraph, IsPlaceOf, LeadBefore, LeadTo, draws_value, draw_value, hand_at, rest_by, rests_value}
 use Rattle.riichi_chances.specs.Laws.{IsFourteen, IsThirteen}

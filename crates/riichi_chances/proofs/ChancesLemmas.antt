@@ -1,16 +1,22 @@
 -- The chances of each number of turns, one number more at a time.
-use Rattle.std.proofs.Common.{◌≡◌, ◌≢◌, ℕ, ◌+◌, ◌-◌, ◌<◌, ◌≤◌, List, length, get_or, slice_set, get_or-set_same, get_or-set_other, refl, sym, ap, subst, ◌∙◌, ⊎_elim, arith}
+use Rattle.std.proofs.Common.{◌≡◌, ℕ, zero, suc, ◌+◌, ◌-◌, ◌<◌, ◌≤◌, List, [], ◌∷◌, ◌++◌, map, take, Some, length, length-append, slice_set, get_or-set_same, get_or-set_other, refl, sym, ap, subst, ◌∙◌, ⊎_elim, arith}
 use Rattle.std.proofs.lemmas.Bool.{cases_eq}
-use Rattle.std.specs.Prelude.{slice_index, slice_index_or}
+use Rattle.std.proofs.lemmas.List.{get_or_append_left, get_or_push, map_push}
+use Rattle.std.specs.Option.{option_map}
+use Rattle.std.specs.Prelude.{slice_get, slice_index, slice_index_or}
 use Rattle.riichi_hand.specs.HandParts.{ShapeParts}
-use Rattle.riichi_chances.specs.Aims.{HasRows, lack_of, row_of}
-use Rattle.riichi_chances.specs.Chances.{AreChances, AreCounted}
+use Rattle.riichi_shape.specs.KeptDiscards.{short_of}
+use Rattle.riichi_shape.specs.declared.discard.Discard.{Discard}
+use Rattle.riichi_shape.specs.declared.discard.ShortDiscard.{ShortDiscard}
+use Rattle.riichi_deeper.specs.Drawn.{parts_without}
+use Rattle.riichi_chances.specs.Chances.{AreAfter, AreChances, AreCounted}
 use Rattle.riichi_chances.specs.Counted.{counted_draws}
 use Rattle.riichi_chances.specs.Draws.{all_draws, draws, unseen_of}
+use Rattle.riichi_chances.specs.Graph.{IsPlaceOf, hand_at}
 use Rattle.riichi_chances.specs.Laws.{IsThirteen}
 use Rattle.riichi_chances.specs.declared.chances.Chances.{Chances}
-use Rattle.riichi_chances.specs.declared.goal.Goal.{Goal}
-use Rattle.riichi_chances.specs.declared.rows.Rows.{Rows}
+use Rattle.riichi_chances.specs.declared.discards.DiscardChances.{DiscardChances}
+use Rattle.riichi_chances.specs.declared.graph.Graph.{Graph}
 use Rattle.riichi_chances.proofs.ChanceLemmas.{chance_law}
 use Rattle.riichi_chances.proofs.CountedLemmas.{counted_law}
 use Rattle.riichi_chances.proofs.UnseenLemmas.{all_turns}
@@ -59,3 +65,44 @@ are_chances parts place unseen turns chances is place_is unseen_is are = record 
 
     all : (k : ℕ) → k ≤ turns → slice_index chances.all k ≡ all_draws (unseen_of parts) k
     all k low = are.all k low ∙ ap (λ n. all_draws n k) unseen_is
+
+pub placed : (graph : Graph) (parts : ShapeParts) (place : ℕ) → IsPlaceOf graph parts place → hand_at parts graph.hands.keys place ≡ parts
+placed graph parts place there = ap (λ (tiles : List ℕ). same tiles) there.is
+  where
+    same : List ℕ → ShapeParts
+    same tiles = record { tiles = tiles; melds = parts.melds; seen = parts.seen }
+
+-- ---- discard after discard
+
+abbrev pub kinds_of : List Discard → List ℕ
+kinds_of discards = map (λ (discard : Discard). discard.kind) discards
+
+abbrev pub told_kinds : List DiscardChances → List ℕ
+told_kinds each = map (λ (one : DiscardChances). one.kind) each
+
+pub kinds_more : (discards : List Discard) (at : ℕ) (short : ShortDiscard) → Some short ≡ option_map short_of (slice_get discards at) → kinds_of (take (at + 1) discards) ≡ kinds_of (take at discards) ++ short.kind ∷ []
+kinds_more [] at short e = absurd (cc)
+kinds_more (discard ∷ rest) zero short e = let same : short ≡ short_of discard = cc in ap (λ (s : ShortDiscard). s.kind ∷ []) (sym same)
+kinds_more (discard ∷ rest) (suc at) short e = ap (λ n. kinds_of (take n (discard ∷ rest))) (one at) ∙ ap (λ (ks : List ℕ). discard.kind ∷ ks) (kinds_more rest at short e)
+  where
+    one : (n : ℕ) → suc n + 1 ≡ suc (n + 1)
+    one n = omega arith
+
+pub told_more : (each after : List DiscardChances) (one : DiscardChances) (discards : List Discard) (at : ℕ) (short : ShortDiscard) → Some short ≡ option_map short_of (slice_get discards at) → one.kind ≡ short.kind → after ≡ each ++ one ∷ [] → told_kinds each ≡ kinds_of (take at discards) → told_kinds after ≡ kinds_of (take (at + 1) discards)
+told_more each after one discards at short e kind_is after_is so_far =
+    ap told_kinds after_is ∙ map_push (λ (it : DiscardChances). it.kind) each one ∙ ap (λ (ks : List ℕ). ks ++ one.kind ∷ []) so_far ∙ ap (λ k. kinds_of (take at discards) ++ k ∷ []) kind_is ∙ sym (kinds_more discards at short e)
+
+pub after_none : (parts : ShapeParts) (turns : ℕ) → AreAfter parts turns []
+after_none parts turns place one low = absurd (omega (arith, low))
+
+pub after_more : (parts rest : ShapeParts) (turns : ℕ) (each after : List DiscardChances) (one : DiscardChances) → AreAfter parts turns each → rest ≡ parts_without parts one.kind → AreChances rest turns one.chances → after ≡ each ++ one ∷ [] → AreAfter parts turns after
+after_more parts rest turns each after one so_far rest_is are after_is = subst (AreAfter parts turns) (sym after_is) all_of
+  where
+    all_of : AreAfter parts turns (each ++ one ∷ [])
+    all_of p it low = ⊎_elim here (λ ne. other (omega (arith, low, ne, length-append each (one ∷ [])))) (cases_eq p (length each))
+      where
+        other : p < length each → AreChances (parts_without parts (slice_index_or (each ++ one ∷ []) p it).kind) turns (slice_index_or (each ++ one ∷ []) p it).chances
+        other less = subst (λ (x : DiscardChances). AreChances (parts_without parts x.kind) turns x.chances) (sym (get_or_append_left each (one ∷ []) it p less)) (so_far p it less)
+
+        here : p ≡ length each → AreChances (parts_without parts (slice_index_or (each ++ one ∷ []) p it).kind) turns (slice_index_or (each ++ one ∷ []) p it).chances
+        here e = subst (λ (x : DiscardChances). AreChances (parts_without parts x.kind) turns x.chances) (sym (get_or_push each one it p (sym e))) (subst (λ (q : ShapeParts). AreChances q turns one.chances) rest_is are)

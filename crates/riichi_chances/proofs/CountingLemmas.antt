@@ -1,9 +1,9 @@
 -- The numbers of a hand by the numbers of those that it leads to.
-use Rattle.std.proofs.Common.{◌≡◌, ℕ, zero, suc, ◌+◌, ◌-◌, ◌*◌, ◌^◌, ◌<◌, ◌≤◌, Bool, true, false, cond, Contains, max, inl, inr, List, [], ◌∷◌, map, Some, None, length, refl, sym, ap, subst, ◌∙◌, arith}
+use Rattle.std.proofs.Common.{◌≡◌, ℕ, zero, suc, ◌+◌, ◌-◌, ◌*◌, ◌<◌, ◌≤◌, Bool, true, false, cond, Contains, max, inl, inr, List, [], ◌∷◌, map, Some, None, length, refl, sym, ap, subst, ◌∙◌, arith}
 use Rattle.std.proofs.lemmas.Bool.{and_parts, leb-false, lt-ltb, ltb-true}
 use Rattle.std.specs.List.{filter}
 use Rattle.std.specs.Option.{option_map}
-use Rattle.std.specs.Prelude.{nat_le, nat_lt, replicate, slice_get, slice_index, sum_by}
+use Rattle.std.specs.Prelude.{nat_le, nat_lt, replicate, slice_get, slice_index}
 use Rattle.riichi_hand.specs.HandParts.{ShapeParts}
 use Rattle.riichi_tiles.specs.Melds.{every_kind}
 use Rattle.riichi_tiles.specs.declared.meld.Meld.{Meld}
@@ -17,14 +17,14 @@ use Rattle.riichi_shape.specs.LiveCopies.{live_in, pairs_of}
 use Rattle.riichi_shape.specs.declared.discard.Discard.{Discard}
 use Rattle.riichi_shape.specs.declared.discard.ShortDiscard.{ShortDiscard}
 use Rattle.riichi_shape.proofs.Choices.{discards_are}
-use Rattle.riichi_deeper.proofs.DeeperLemmas.{has_copies, pair_at, rest_all, rest_end, rest_none, rest_of, rest_some}
+use Rattle.riichi_deeper.proofs.DeeperLemmas.{has_copies, pair_at}
 use Rattle.riichi_deeper.specs.Drawn.{parts_with}
 use Rattle.riichi_chances.specs.Aims.{Aim, HasCounts, lack_of, draws_at}
-use Rattle.riichi_chances.specs.Counted.{accepts, counted_draws, counted_by, counted_rest, counted_with, accepted_draws, parts_less}
+use Rattle.riichi_chances.specs.Counted.{accepts, counted_draws, counted_rest, counted_with, accepted_draws, parts_less}
 use Rattle.riichi_chances.specs.Draws.{all_draws, greatest, is_there}
 use Rattle.riichi_chances.specs.Numbers.{most_draws, unseen_at}
-use Rattle.riichi_chances.proofs.BoundLemmas.{accepted_few, all_few, counted_few, gains_few, times_few}
-use Rattle.riichi_chances.proofs.SpanLemmas.{all_none, next_fits, one_turn_more}
+use Rattle.riichi_chances.proofs.BoundLemmas.{all_few, counted_few, gains_few, times_few}
+use Rattle.riichi_chances.proofs.SpanLemmas.{all_none, one_turn_more}
 
 abbrev pub gains_at : Aim → ShapeParts → ℕ → ℕ
 gains_at aim parts left = accepted_draws (lack_of aim.goal) (unseen_at aim.span left) left (draws_at aim left) parts

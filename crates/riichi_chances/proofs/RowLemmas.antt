@@ -1,12 +1,11 @@
 -- The rows of a hand by those of the hands that it leads to.
-use Rattle.std.proofs.Common.{◌≡◌, ℕ, zero, suc, ◌+◌, ◌-◌, ◌*◌, ◌^◌, ◌<◌, ◌≤◌, Bool, true, false, cond, max, inl, inr, List, [], ◌∷◌, ◌++◌, length, drop, get_or, refl, sym, ap, subst, ◌∙◌, ⊎_elim, arith, length-append}
+use Rattle.std.proofs.Common.{◌≡◌, ℕ, ◌+◌, ◌*◌, ◌^◌, ◌<◌, ◌≤◌, Bool, true, false, max, inl, inr, List, [], ◌∷◌, ◌++◌, length, drop, get_or, refl, sym, ap, subst, ◌∙◌, ⊎_elim, arith, length-append}
 use Rattle.std.proofs.lemmas.Bool.{and_parts, cases_eq, eq-eqb, leb-false, ltb-true}
 use Rattle.std.proofs.lemmas.Bool.Decides.{nat_tests}
 use Rattle.std.proofs.lemmas.List.{drop_all, get_or_append_left, get_or_default, get_or_push}
 use Rattle.std.proofs.lemmas.List.Sums.{sum_by-cons, sum_by-drop_more}
 use Rattle.std.specs.List.{filter}
 use Rattle.std.specs.Prelude.{nat_le, nat_lt, slice_index, slice_index_or, sum_by}
-use Rattle.riichi_hand.specs.Hand.{size}
 use Rattle.riichi_hand.specs.HandParts.{ShapeParts}
 use Rattle.riichi_tiles.specs.Melds.{every_kind}
 use Rattle.riichi_tiles.proofs.Members.{IsIn, in-filter, in-filter-inv, in-map-inv, in-range, in-range-inv}
@@ -21,9 +20,9 @@ use Rattle.riichi_shape.proofs.RemovalLemmas.{chosen_is}
 use Rattle.riichi_deeper.proofs.DrawnLemmas.{size_with}
 use Rattle.riichi_deeper.specs.Drawn.{parts_with}
 use Rattle.riichi_chances.specs.Aims.{Aim, HasRows, draws_at, lack_of, row_of}
-use Rattle.riichi_chances.specs.Counted.{accepted_draws, accepts, counted_by, counted_draws, counted_rest, counted_with, parts_less}
+use Rattle.riichi_chances.specs.Counted.{accepted_draws, accepts, counted_by, counted_rest, counted_with, parts_less}
 use Rattle.riichi_chances.specs.Draws.{all_draws, greatest, is_there}
-use Rattle.riichi_chances.specs.Graph.{AreRows, IsGraph, IsNode, LeadBefore, draw_value, draws_value, hand_at, no_rows, number_at, rest_by, rests_value}
+use Rattle.riichi_chances.specs.Graph.{AreRows, IsGraph, IsNode, draw_value, draws_value, hand_at, no_rows, number_at, rest_by, rests_value}
 use Rattle.riichi_chances.specs.Laws.{IsFourteen, IsThirteen}
 use Rattle.riichi_chances.specs.Numbers.{AreAdded, AreAllDraws, AreGreater, BeginWith, FitTogether, Follow, FollowReady, most_draws, unseen_at}
 use Rattle.riichi_chances.specs.declared.goal.Goal.{Goal}

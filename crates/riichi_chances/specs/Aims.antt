@@ -1,5 +1,5 @@
 -- What is asked of a hand, and of each that it leads to.
-use Rattle.std.specs.Prelude.{◌≡◌, ℕ, ◌*◌, ◌<◌, ◌≤◌, List, slice_index}
+use Rattle.std.specs.Prelude.{◌≡◌, ℕ, ◌≤◌, List, slice_index}
 use Rattle.riichi_hand.specs.HandParts.{ShapeParts}
 use Rattle.riichi_chances.specs.Counted.{counted_draws}
 use Rattle.riichi_chances.specs.declared.goal.Goal.{Goal}

@@ -6,6 +6,13 @@ use Rattle.riichi_chances.specs.Draws.{all_draws, draws, unseen_of}
 use Rattle.riichi_deeper.specs.Drawn.{parts_without}
 use Rattle.riichi_chances.specs.declared.chances.Chances.{Chances}
 use Rattle.riichi_chances.specs.declared.discards.DiscardChances.{DiscardChances}
+use Rattle.riichi_chances.specs.declared.goal.Goal.{Goal}
+use Rattle.riichi_chances.specs.declared.goal.Goal.TheVariants.{Ready, Win}
+
+-- the draws that bring a hand to a goal
+abbrev pub reached_of : Goal → Chances → List ℕ
+reached_of Ready chances = chances.ready
+reached_of Win chances = chances.win
 
 -- for each number of turns up to one the draws that bring the hand to lack one tile at most, those that bring it to lack none, and all
 pub record AreChances (parts : ShapeParts) (turns : ℕ) (chances : Chances) : Type 0 where

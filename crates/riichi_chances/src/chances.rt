@@ -8,6 +8,7 @@ ghost use Rattle.riichi_chances.specs.Graph.{IsGraph, hand_at};
 use crate::building::place_of;
 use crate::counting::fill;
 use crate::fault::ChancesFault;
+use crate::goal::Goal;
 use crate::graph::Graph;
 use crate::span::Span;
 use crate::unseen::unseen;
@@ -22,6 +23,18 @@ pub struct Chances {
     pub ready: [u128; 19],
     pub win: [u128; 19],
     pub all: [u128; 19],
+}
+
+impl Chances {
+    /// The draws that bring the hand to a goal.
+    pub fn reached(&self, goal: Goal) -> &[u128; 19]
+        ensures { result.now ≡ spec.reached_of goal self.now }
+    {
+        match goal {
+            Goal::Ready => &self.ready,
+            Goal::Win => &self.win,
+        }
+    }
 }
 
 /// The chances of thirteen tiles for each number of turns up to this, if it comes to so many hands at most.

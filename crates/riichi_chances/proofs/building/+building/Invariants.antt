@@ -1,4 +1,4 @@
-use Rattle.std.proofs.Common.{◌≡◌, ◌+◌, ◌*◌, ◌<◌, length}
+use Rattle.std.proofs.Common.{◌≡◌, ◌+◌, ◌*◌}
 use Rattle.riichi_shape.specs.EveryWinning.{distance_of}
 use Rattle.riichi_chances.specs.Graph.{Grows}
 use Rattle.riichi_chances.proofs.BuildingLemmas.{DrawsSoFar, RestsSoFar}

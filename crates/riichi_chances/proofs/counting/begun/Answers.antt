@@ -1,4 +1,4 @@
-use Rattle.std.proofs.Common.{ap, ◌∙◌, arith}
+use Rattle.std.proofs.Common.{ap, ◌∙◌}
 use Rattle.riichi_chances.specs.Draws.{greatest}
 use Rattle.riichi_chances.specs.Graph.{number_at}
 use Rattle.riichi_chances.proofs.RowLemmas.{sums_end, sums_fit, sums_init, sums_step}

@@ -1,4 +1,4 @@
-use Rattle.std.proofs.Common.{get_or, arith}
+use Rattle.std.proofs.Common.{get_or}
 use Rattle.std.proofs.lemmas.List.{get_or_default}
 use Rattle.riichi_chances.proofs.RowLemmas.{best_end, best_init, best_step}
 use Rattle.riichi_chances.proofs.counting.best_of.Goals as goal

@@ -1,4 +1,4 @@
-use Rattle.std.proofs.Common.{◌≡◌, [], ◌∷◌, length, length-append, sym, ap, subst, ◌∙◌, arith}
+use Rattle.std.proofs.Common.{[], ◌∷◌, length, length-append, sym, ap, subst, arith}
 use Rattle.riichi_chances.specs.Graph.{AreRows}
 use Rattle.riichi_chances.proofs.RowLemmas.{rows_more}
 use Rattle.riichi_chances.proofs.counting.fill.Goals as goal

@@ -1,7 +1,5 @@
-use Rattle.std.proofs.Common.{◌≡◌, ◌<◌, length, sym, ap, ◌∙◌, arith}
-use Rattle.std.specs.Prelude.{slice_index_or}
-use Rattle.riichi_hand.specs.HandParts.{ShapeParts}
-use Rattle.riichi_chances.specs.Graph.{IsGraph, IsNode, draws_value, hand_at, number_at}
+use Rattle.std.proofs.Common.{sym, ap, ◌∙◌, arith}
+use Rattle.riichi_chances.specs.Graph.{draws_value, hand_at, number_at}
 use Rattle.riichi_chances.specs.declared.goal.Goal.TheVariants.{Ready, Win}
 use Rattle.riichi_chances.proofs.RowLemmas.{followed_rows, gains_few, gains_fit, live_few, node_at, ready_has}
 use Rattle.riichi_chances.proofs.counting.rows_at.Goals as goal

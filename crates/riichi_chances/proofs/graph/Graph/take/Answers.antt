@@ -1,5 +1,4 @@
-use Rattle.std.proofs.Common.{◌≡◌, ◌++◌, [], ◌∷◌, List, ℕ, length, refl, sym, ap, ◌∙◌, arith}
-use Rattle.riichi_chances.specs.Graph.{Grows}
+use Rattle.std.proofs.Common.{◌++◌, [], ◌∷◌, List, ℕ, refl, ap, ◌∙◌, arith}
 use Rattle.riichi_chances.specs.declared.graph.Graph.{Graph}
 use Rattle.riichi_chances.proofs.GraphLemmas.{new_last, old_stays, same_graph, same_more, stored_is, taken_graph, taken_more}
 use Rattle.riichi_chances.proofs.graph.Graph.take.Goals as goal

@@ -1,0 +1,38 @@
+use Rattle.std.proofs.Common.{List, refl, sym, ap, subst, ◌∙◌, arith}
+use Rattle.std.proofs.lemmas.List.{take_all}
+use Rattle.riichi_shape.specs.declared.discard.Discard.{Discard}
+use Rattle.riichi_chances.specs.Chances.{AreAfter}
+use Rattle.riichi_chances.specs.declared.discards.DiscardChances.{DiscardChances}
+use Rattle.riichi_chances.proofs.ChancesLemmas.{after_more, after_none, kinds_of, told_kinds, told_more}
+use Rattle.riichi_chances.proofs.CountingLemmas.{best_at, never_past}
+use Rattle.riichi_chances.proofs.discards.after_each.Goals as goal
+
+pub loop-at-init : goal.loop-at-init
+loop-at-init g c = record {
+  stays = refl;
+  told = ap told_kinds c.new-each.ensures.items;
+  after = subst (λ (each : List DiscardChances). AreAfter c.args.asked.now c.args.turns each) (sym c.new-each.ensures.items) (after_none c.args.asked.now c.args.turns);
+}
+
+pub without_tile-rest-requires-clause-held : goal.without_tile-rest-requires-clause-held
+without_tile-rest-requires-clause-held g c = (best_at c.args.asked.now c.args.discards.now c.loop-at.at c.in-Some.discard c.requires.discards (sym c.in-Some.is ∙ c.short_at.ensures)).held
+
+pub unreachable-requires : goal.unreachable-requires
+unreachable-requires g c = never_past c.args.discards.now c.loop-at.at (omega (arith, c.loop-at-test.true, c.len-at-end.ensures.value)) (sym c.in-None.is ∙ c.short_at.ensures)
+
+pub loop-at-preserved : goal.loop-at-preserved
+loop-at-preserved g c =
+    let so_far = c.loop-at.invariant in
+    let one : DiscardChances = record { kind = c.in-Some.discard.kind; chances = c.in_ok-chances-in-Some.chances } in
+    record {
+      stays = c.chances_of.ensures.stays ∙ so_far.stays;
+      told = told_more c.loop-at.each.items c.keep.new.each.items one c.args.discards.now c.loop-at.at c.in-Some.discard (sym c.in-Some.is ∙ c.short_at.ensures) refl c.in_ok-keep-in-Some.ensures so_far.told;
+      after = after_more c.args.asked.now c.without_tile-rest.result c.args.turns c.loop-at.each.items c.keep.new.each.items one so_far.after c.without_tile-rest.ensures.value c.in_ok-chances-in-Some.ensures.chances c.in_ok-keep-in-Some.ensures;
+    }
+
+pub returns-clause-each : goal.returns-clause-each
+returns-clause-each g c =
+    c.loop-at.invariant.told ∙ ap (λ (discards : List Discard). kinds_of discards) (take_all c.loop-at.at c.args.discards.now (omega (arith, c.loop-at-test.false, c.len-at-end.ensures.value)))
+
+pub returns-clause-chances : goal.returns-clause-chances
+returns-clause-chances g c = c.loop-at.invariant.after

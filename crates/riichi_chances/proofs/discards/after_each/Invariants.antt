@@ -1,0 +1,12 @@
+use Rattle.std.proofs.Common.{◌≡◌, take}
+use Rattle.riichi_chances.specs.Chances.{AreAfter}
+use Rattle.riichi_chances.proofs.ChancesLemmas.{kinds_of, told_kinds}
+use Rattle.riichi_chances.proofs.discards.after_each.Given as goal
+
+-- the chances after the first discards
+abbrev pub invariant-loop-at : goal.invariant-loop-at
+invariant-loop-at g l = record {
+  stays : l.source ≡ l.fn.source;
+  told : told_kinds l.each.items ≡ kinds_of (take l.at l.discards);
+  after : AreAfter l.asked l.turns l.each.items;
+}
