@@ -35,7 +35,9 @@ pub fn discard_chances<R: RowSource>(
 {
     let answer = shape_with(source, asked);
     match &answer.accepts {
-        Accepts::Fourteen(discards) => after_each(alloc, source, asked, discards, turns, most_hands),
+        Accepts::Fourteen(discards) => after_each(
+            alloc, source, asked, discards, turns, most_hands,
+        ),
         Accepts::Thirteen(_) => unreachable!(),
     }
 }

@@ -1,15 +1,17 @@
 //! Chances by turn: how likely a hand is to be ready, or to win, by so many draws.
 //!
-//! [`chance_of`] answers thirteen tiles, and [`chance_without`] fourteen after a discard, by a [`Chance`]: of all ordered draws of
-//! so many unseen tiles, how many bring the hand to its [`Goal`]. The player is alone at the table. A tile that brings the hand
-//! nearer is kept, and of the best discards the one is made after which most draws lead there; any other tile is thrown at once,
-//! and no tile comes back. So the chance is what this play reaches, and no bound of what another might.
+//! [`chances_of`] answers thirteen tiles, and [`discard_chances`] fourteen after each of their best discards, by [`Chances`]: for each
+//! number of turns, of all ordered draws of so many unseen tiles, how many bring the hand to a [`Goal`]. The player is alone at the
+//! table. A tile that brings the hand nearer is kept, and of the best discards the one is made after which most draws lead there; any
+//! other tile is thrown at once, and no tile comes back. So the chance is what this play reaches, and no bound of what another might.
 //!
 //! It is found by the kinds that the hand accepts alone, from the hand and the turns that are left: what was thrown on the way is
-//! accepted no more, so it need not be known ([`laws::hand_and_turns`]). Each hand on the way has a row of numbers, one for each
-//! number of turns that may be left, made of the rows of the hands that it leads to. Shapes come from
-//! `riichi_shape::shape_with` by the rows of a source. No call takes memory, and none remembers a hand, so one that many ways
-//! lead to is asked on each of them.
+//! accepted no more, so it need not be known ([`laws::hand_and_turns`]). Each hand that it may come to is taken once, with the hands
+//! that it leads to, which stand before it: `graph` is these hands and `building` takes them, by `riichi_shape::shape_with` and the
+//! rows of a source. Then, for each number of turns, `counting` makes the numbers of each hand of those before it.
+//!
+//! A call takes memory for its hands, some two kilobytes each, and refuses a hand that may come to more of them than it is told
+//! ([`ChancesFault`]). It never tells another number.
 //!
 //! So `234m45678p34s558s`, of 123 unseen tiles, is ready by the next draw in 20 of 123 cases, and wins by two draws in 165 of
 //! 15,006.

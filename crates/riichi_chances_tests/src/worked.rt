@@ -1,13 +1,21 @@
 //! Worked hands.
+ghost use Rattle.std.specs.Prelude.{◌≡◌, true};
+ghost use Rattle.riichi_hand.specs.Hand.{is_thirteen, size};
+
 use crate::facts::same;
 use crate::hands::{hand, kind, size};
-use riichi_chances::{Chances, ChancesFault, Goal, MOST_TURNS, chances_of, discard_chances, laws};
+use riichi_chances::{
+    Chances, ChancesFault, DiscardChances, Goal, MOST_TURNS, chances_of, discard_chances, laws,
+};
+use riichi_hand::ShapeRecord;
 use riichi_rows::FreshRows;
+use riichi_tiles::Kind;
 use std::alloc::Global;
 use std::process::Abort;
 use std::test::Fail;
 
 /// A hand, after a discard where it has fourteen tiles, and its chances by some turns, each as a fraction.
+#[derive(Drop)]
 struct Row {
     hand: &'static str,
     discard: &'static str,
@@ -16,40 +24,75 @@ struct Row {
 }
 
 /// So many hands are enough for each of these.
-const MOST_HANDS: usize = 8192;
+const MOST_HANDS: usize = 2048;
 
-/// The chances of a row by all turns.
-fn answer_to(rt: &impl Abort, alloc: Global, row: &Row) -> Result<Chances, Fail> {
-    let asked = hand(row.hand, &[], "")?;
-    if row.discard.is_empty() {
-        if size(&asked) == 13 {
-            let told = chances_of(alloc, &mut FreshRows, &asked, MOST_TURNS, MOST_HANDS);
-            return told.map_err(refused);
+fn after(each: &[DiscardChances], discard: Kind) -> Option<Chances> {
+    for one in each {
+        if one.kind == discard {
+            return Some(one.chances);
         }
-        return Err(Fail::from("not thirteen tiles"));
     }
-    if size(&asked) != 14 {
-        return Err(Fail::from("not fourteen tiles"));
-    }
-    let discard = kind(row.discard)?;
-    match discard_chances(alloc, &mut FreshRows, &asked, MOST_TURNS, MOST_HANDS) {
-        Ok(each) => {
-            for one in &each {
-                if one.kind == discard {
-                    return Ok(one.chances);
-                }
-            }
-            Err(Fail::from("no such discard"))
+    None
+}
+
+/// The chances of thirteen tiles. Where one request for memory is refused, the second call has it.
+fn one_in_two(
+    alloc: Global,
+    asked: &ShapeRecord,
+    most_hands: usize,
+) -> Result<Chances, ChancesFault>
+    requires { is_thirteen asked.now.tiles asked.now.melds ≡ true }
+{
+    match chances_of(alloc, &mut FreshRows, asked, MOST_TURNS, most_hands) {
+        Err(ChancesFault::Memory) => {
+            chances_of(alloc, &mut FreshRows, asked, MOST_TURNS, most_hands)
         }
-        Err(fault) => Err(refused(fault)),
+        answer => answer,
+    }
+}
+
+/// The same after each best discard of fourteen tiles.
+fn each_of(
+    alloc: Global,
+    asked: &ShapeRecord,
+    most_hands: usize,
+) -> Result<Vec<DiscardChances>, ChancesFault>
+    requires { size asked.now.tiles asked.now.melds ≡ 14 }
+{
+    match discard_chances(alloc, &mut FreshRows, asked, MOST_TURNS, most_hands) {
+        Err(ChancesFault::Memory) => {
+            discard_chances(alloc, &mut FreshRows, asked, MOST_TURNS, most_hands)
+        }
+        answer => answer,
+    }
+}
+
+fn each_in_two(alloc: Global, asked: &ShapeRecord) -> Result<Vec<DiscardChances>, Fail> {
+    if size(asked) == 14 {
+        each_of(alloc, asked, MOST_HANDS).map_err(refused)
+    } else {
+        Err(Fail::from("not fourteen tiles"))
     }
 }
 
 fn refused(fault: ChancesFault) -> Fail {
     match fault {
-        ChancesFault::Memory => Fail::from("no memory"),
+        ChancesFault::Memory => Fail::from("no memory twice"),
         ChancesFault::TooManyHands => Fail::from("too many hands"),
     }
+}
+
+fn answer_to(alloc: Global, row: &Row) -> Result<Chances, Fail> {
+    let asked = hand(row.hand, &[], "")?;
+    if row.discard.is_empty() {
+        if size(&asked) == 13 {
+            return one_in_two(alloc, &asked, MOST_HANDS).map_err(refused);
+        }
+        return Err(Fail::from("not thirteen tiles"));
+    }
+    let each = each_in_two(alloc, &asked)?;
+    let chances = after(each.as_slice(), kind(row.discard)?).ok_or("no such discard")?;
+    Ok(chances)
 }
 
 /// The draws that lead there, where so many of so many do.
@@ -197,19 +240,20 @@ const FAR: [Row; 4] = [
 ];
 
 fn check(rt: &impl Abort, alloc: Global, row: &Row) -> Result<(), Fail> {
-    let told = answer_to(rt, alloc, row)?;
+    let told = answer_to(alloc, row)?;
     for (turns, some, among) in row.chances {
-        let left = *turns as usize;
-        if left > 18 {
-            return Err(Fail::from("too many turns"));
+        let place = *turns as usize;
+        match (told.reached(row.goal).get(place), told.all.get(place)) {
+            (Some(reached), Some(all)) => same(rt, Some(*reached), part_of(*all, *some, *among)),
+            _ => return Err(Fail::from("too many turns")),
         }
-        let reached = match row.goal {
-            Goal::Ready => told.ready[left],
-            Goal::Win => told.win[left],
-        };
-        same(rt, Some(reached), part_of(told.all[left], *some, *among));
     }
     Ok(())
+}
+
+/// The chance in ten thousandths, the nearest of them.
+fn rounded(reached: u128, all: u128) -> Option<u128> {
+    reached.checked_add(all / 20_000)?.checked_div(all / 10_000)
 }
 
 #[test]
@@ -233,6 +277,69 @@ fn far_hands(rt: HostRuntime) -> Result<(), Fail> {
     for row in &FAR {
         check(&rt, rt.alloc(), row)?;
     }
+    Ok(())
+}
+
+/// A discard, so many turns, and the chance to win by them in ten thousandths.
+type AfterDiscard = (&'static str, u8, u128);
+
+const ONE_FROM_READY: [AfterDiscard; 6] = [
+    ("6s", 6, 1030),
+    ("6s", 17, 4219),
+    ("6s", 18, 4462),
+    ("2m", 6, 959),
+    ("2m", 17, 4673),
+    ("2m", 18, 4984),
+];
+
+const TWO_FROM_READY: [AfterDiscard; 2] = [("5s", 18, 2515), ("7m", 18, 3931)];
+
+fn check_discards(
+    rt: &impl Abort,
+    alloc: Global,
+    tiles: &str,
+    rows: &[AfterDiscard],
+) -> Result<(), Fail> {
+    let asked = hand(tiles, &[], "")?;
+    let each = each_in_two(alloc, &asked)?;
+    for (discard, turns, wanted) in rows {
+        let chances = after(each.as_slice(), kind(*discard)?).ok_or("no such discard")?;
+        let place = *turns as usize;
+        match (chances.win.get(place), chances.all.get(place)) {
+            (Some(win), Some(all)) => same(rt, rounded(*win, *all), Some(*wanted)),
+            _ => return Err(Fail::from("too many turns")),
+        }
+    }
+    Ok(())
+}
+
+#[test]
+fn one_from_ready(rt: HostRuntime) -> Result<(), Fail> {
+    check_discards(&rt, rt.alloc(), "23678m23p1236789s", &ONE_FROM_READY)
+}
+
+#[test]
+fn two_from_ready(rt: HostRuntime) -> Result<(), Fail> {
+    check_discards(&rt, rt.alloc(), "44577m23p3356678s", &TWO_FROM_READY)
+}
+
+/// A hand that may come to more hands than are looked at is refused by that name.
+#[test]
+fn few_hands(rt: HostRuntime) -> Result<(), Fail> {
+    let asked = hand("123m4467p23557s1z", &[], "")?;
+    if size(&asked) != 13 {
+        return Err(Fail::from("not thirteen tiles"));
+    }
+    for most_hands in [0, 1, 20] {
+        let told = one_in_two(rt.alloc(), &asked, most_hands);
+        same(&rt, told, Err(ChancesFault::TooManyHands));
+    }
+    let drawn = hand("44577m23p3356678s", &[], "")?;
+    if size(&drawn) != 14 {
+        return Err(Fail::from("not fourteen tiles"));
+    }
+    let told = each_of(rt.alloc(), &drawn, 20).map(|_| 0);
+    same(&rt, told, Err(ChancesFault::TooManyHands));
     Ok(())
 }
 

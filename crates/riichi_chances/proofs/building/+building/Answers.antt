@@ -37,9 +37,19 @@ draws_of-rests_of-requires g t c κs within =
     let asked = c.args.asked.now in
     let drawn = c.with_tile-drawn.result in
     let number = c.loop-number.number in
-    let drawn_is = c.with_tile-drawn.ensures.value in
-    (omega (arith, c.decreases, drawn_nearer asked c.copies-copies.result.now number c.at.result drawn (sym c.copies-copies.ensures.value ∙ c.requires.accepted) c.loop-number-test.true c.if-live-gt0.true c.at.ensures drawn_is), (within, (drawn_whole asked c.requires.whole number c.at.result c.loop-number-test.true drawn c.at.ensures drawn_is c.with_tile-drawn.ensures.fourteen, (drawn_far asked c.requires.whole number c.at.result c.loop-number-test.true drawn c.at.ensures drawn_is c.requires.far,
-    same_root asked drawn c.loop-number.graph (sym (ap (λ (p : ShapeParts). p.melds) drawn_is)) (sym (ap (λ (p : ShapeParts). p.seen) drawn_is)) c.loop-number.invariant.grows.whole))))
+    let drawn_is = c.with_tile-drawn.ensures.value in (
+      omega (arith, c.decreases, drawn_nearer asked c.copies-copies.result.now number c.at.result drawn (sym c.copies-copies.ensures.value ∙ c.requires.accepted) c.loop-number-test.true c.if-live-gt0.true c.at.ensures drawn_is),
+      (
+        within,
+        (
+          drawn_whole asked c.requires.whole number c.at.result c.loop-number-test.true drawn c.at.ensures drawn_is c.with_tile-drawn.ensures.fourteen,
+          (
+            drawn_far asked c.requires.whole number c.at.result c.loop-number-test.true drawn c.at.ensures drawn_is c.requires.far,
+            same_root asked drawn c.loop-number.graph (sym (ap (λ (p : ShapeParts). p.melds) drawn_is)) (sym (ap (λ (p : ShapeParts). p.seen) drawn_is)) c.loop-number.invariant.grows.whole,
+          ),
+        ),
+      ),
+    )
 
 pub draws_of-loop-number-preserved : goal.draws_of-loop-number-preserved
 draws_of-loop-number-preserved g t c =
@@ -50,19 +60,19 @@ draws_of-loop-number-preserved g t c =
     let before = c.loop-number.graph in
     elim c.if-live-gt0.branch [
       | draws_of-then-live-gt0+in_ok-rests+in_ok-keep_draw w ↦ (
-        let drawn = w.with_tile-drawn.result in
-        let drawn_is = w.with_tile-drawn.ensures.value in
-        let after = w.rests_of.new.graph in
-        let grown = grows_root drawn asked before after (ap (λ (p : ShapeParts). p.melds) drawn_is) (ap (λ (p : ShapeParts). p.seen) drawn_is) w.in_ok-rests.ensures.grows in
-        let more_is = ap vec_items w.draws-is ∙ w.in_ok-keep_draw.ensures in
-        let draw : Draw = record { live = get_or copies number 0; rests = w.in_ok-rests.rests } in
-        let step = draws_step asked copies before after so_far.grows.whole grown number c.loop-number-test.true c.loop-number.draws.items c.if-live-gt0.draws.items so_far.so_far w.if-live-gt0.true w.at.result w.at.ensures drawn drawn_is draw refl w.in_ok-rests.rests.items refl w.in_ok-rests.ensures.before w.in_ok-rests.ensures.rests more_is in
-        record {
-          stays = w.source-is ∙ w.rests_of.ensures.stays ∙ so_far.stays;
-          grows = subst (λ (graph : Graph). Grows asked c.args.graph.now graph) (sym w.graph-is) (grows_after asked c.args.graph.now before after so_far.grows grown);
-          so_far = subst (λ (graph : Graph). DrawsSoFar asked copies graph c.if-live-gt0.draws.items (number + 1)) (sym w.graph-is) step;
-        }
-      )
+          let drawn = w.with_tile-drawn.result in
+          let drawn_is = w.with_tile-drawn.ensures.value in
+          let after = w.rests_of.new.graph in
+          let grown = grows_root drawn asked before after (ap (λ (p : ShapeParts). p.melds) drawn_is) (ap (λ (p : ShapeParts). p.seen) drawn_is) w.in_ok-rests.ensures.grows in
+          let more_is = ap vec_items w.draws-is ∙ w.in_ok-keep_draw.ensures in
+          let draw : Draw = record { live = get_or copies number 0; rests = w.in_ok-rests.rests } in
+          let step = draws_step asked copies before after so_far.grows.whole grown number c.loop-number-test.true c.loop-number.draws.items c.if-live-gt0.draws.items so_far.so_far w.if-live-gt0.true w.at.result w.at.ensures drawn drawn_is draw refl w.in_ok-rests.rests.items refl w.in_ok-rests.ensures.before w.in_ok-rests.ensures.rests more_is in
+          record {
+            stays = w.source-is ∙ w.rests_of.ensures.stays ∙ so_far.stays;
+            grows = subst (λ (graph : Graph). Grows asked c.args.graph.now graph) (sym w.graph-is) (grows_after asked c.args.graph.now before after so_far.grows grown);
+            so_far = subst (λ (graph : Graph). DrawsSoFar asked copies graph c.if-live-gt0.draws.items (number + 1)) (sym w.graph-is) step;
+          }
+          )
       | draws_of-else-live-gt0 w ↦ record {
         stays = w.source-is ∙ so_far.stays;
         grows = subst (λ (graph : Graph). Grows asked c.args.graph.now graph) (sym w.graph-is) so_far.grows;
@@ -136,9 +146,16 @@ places_of-best_discarded-rest-requires-clause-best g t c = best_at c.args.drawn.
 
 pub places_of-place_of-requires : goal.places_of-place_of-requires
 places_of-place_of-requires g t c κs within =
-    let rest_is = c.best_discarded-rest.ensures.value in
-    (omega (arith, c.decreases, c.best_discarded-rest.ensures.as_near), (within, (rest_whole c.args.drawn.now c.best_discarded-rest.result c.in-Some.discard.kind c.requires.whole rest_is c.best_discarded-rest.ensures.thirteen,
-    same_root c.args.drawn.now c.best_discarded-rest.result c.loop-at.graph (sym (ap (λ (p : ShapeParts). p.melds) rest_is)) (sym (ap (λ (p : ShapeParts). p.seen) rest_is)) c.loop-at.invariant.grows.whole)))
+    let rest_is = c.best_discarded-rest.ensures.value in (
+      omega (arith, c.decreases, c.best_discarded-rest.ensures.as_near),
+      (
+        within,
+        (
+          rest_whole c.args.drawn.now c.best_discarded-rest.result c.in-Some.discard.kind c.requires.whole rest_is c.best_discarded-rest.ensures.thirteen,
+          same_root c.args.drawn.now c.best_discarded-rest.result c.loop-at.graph (sym (ap (λ (p : ShapeParts). p.melds) rest_is)) (sym (ap (λ (p : ShapeParts). p.seen) rest_is)) c.loop-at.invariant.grows.whole,
+        ),
+      ),
+    )
 
 pub places_of-unreachable-requires : goal.places_of-unreachable-requires
 places_of-unreachable-requires g t c = never_past c.args.discards.now c.loop-at.at (omega (arith, c.loop-at-test.true, c.len-at-end.ensures.value)) (sym c.in-None.is ∙ c.short_at.ensures)

@@ -22,8 +22,11 @@ begun-begun-requires-clause-fits c = λ aim left low.
     let root = c.requires.graph.0 in
     let here = c.index-node.result.now in
     let node = node_at root graph c.args.place here c.requires.graph.1 c.requires.inside c.index-node.ensures in
-    omega (arith, ap (draws_value (number_at aim c.args.earlier.now left)) c.as_slice.ensures.value,
-    gains_fit c.args.span c.requires.turns c.requires.unseen root graph.hands.keys c.args.place here node c.args.earlier.now c.requires.all_before c.requires.graph.2 c.if-node.false (live_few graph.hands.keys c.args.place (hand_at root graph.hands.keys c.args.place) here node) aim left low))
+    omega (
+      arith,
+      ap (draws_value (number_at aim c.args.earlier.now left)) c.as_slice.ensures.value,
+      gains_fit c.args.span c.requires.turns c.requires.unseen root graph.hands.keys c.args.place here node c.args.earlier.now c.requires.all_before c.requires.graph.2 c.if-node.false (live_few graph.hands.keys c.args.place (hand_at root graph.hands.keys c.args.place) here node) aim left low,
+    ))
 
 pub follow-requires-clause-live : goal.follow-requires-clause-live
 follow-requires-clause-live c =
@@ -37,8 +40,12 @@ follow-requires-clause-few c = λ left low.
     let root = c.requires.graph.0 in
     let here = c.index-node.result.now in
     let node = node_at root graph c.args.place here c.requires.graph.1 c.requires.inside c.index-node.ensures in
-    omega (arith, c.begun-begun.ensures Ready left low, ap (draws_value (number_at Ready c.args.earlier.now left)) c.as_slice.ensures.value,
-    gains_few c.args.span c.requires.turns c.requires.unseen root graph.hands.keys c.args.place here node c.args.earlier.now c.requires.all_before c.requires.graph.2 c.if-node.false Ready left low))
+    omega (
+      arith,
+      c.begun-begun.ensures Ready left low,
+      ap (draws_value (number_at Ready c.args.earlier.now left)) c.as_slice.ensures.value,
+      gains_few c.args.span c.requires.turns c.requires.unseen root graph.hands.keys c.args.place here node c.args.earlier.now c.requires.all_before c.requires.graph.2 c.if-node.false Ready left low,
+    ))
 
 pub follow-requires-2-clause-live : goal.follow-requires-2-clause-live
 follow-requires-2-clause-live c =
@@ -52,8 +59,12 @@ follow-requires-2-clause-few c = λ left low.
     let root = c.requires.graph.0 in
     let here = c.index-node.result.now in
     let node = node_at root graph c.args.place here c.requires.graph.1 c.requires.inside c.index-node.ensures in
-    omega (arith, c.begun-begun.ensures Win left low, ap (draws_value (number_at Win c.args.earlier.now left)) c.as_slice.ensures.value,
-    gains_few c.args.span c.requires.turns c.requires.unseen root graph.hands.keys c.args.place here node c.args.earlier.now c.requires.all_before c.requires.graph.2 c.if-node.false Win left low))
+    omega (
+      arith,
+      c.begun-begun.ensures Win left low,
+      ap (draws_value (number_at Win c.args.earlier.now left)) c.as_slice.ensures.value,
+      gains_few c.args.span c.requires.turns c.requires.unseen root graph.hands.keys c.args.place here node c.args.earlier.now c.requires.all_before c.requires.graph.2 c.if-node.false Win left low,
+    ))
 
 pub returns : goal.returns
 returns c = λ root is rows.
