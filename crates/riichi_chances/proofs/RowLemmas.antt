@@ -58,30 +58,30 @@ module _ (span : Span) (live : ℕ) (turns : span.turns ≤ 18) (unseen : span.u
 
 -- ---- the greatest of some places
 
-pub record BestSoFar (earlier : List Rows) (places : List ℕ) (best : Rows) (done : ℕ) : Type 0 where
-  pub at : (goal : Goal) (left : ℕ) → max (slice_index (row_of goal best) left) (greatest (number_at goal earlier left) (drop done places)) ≡ greatest (number_at goal earlier left) places
+pub record BestSoFar (earlier : List Rows) (places : List ℕ) (turns : ℕ) (best : Rows) (done : ℕ) : Type 0 where
+  pub at : (goal : Goal) (left : ℕ) → left < turns → max (slice_index (row_of goal best) left) (greatest (number_at goal earlier left) (drop done places)) ≡ greatest (number_at goal earlier left) places
 
-module _ (earlier : List Rows) (places : List ℕ) where
-  pub best_init : (best : Rows) → ((goal : Goal) (left : ℕ) → slice_index (row_of goal best) left ≡ 0) → BestSoFar earlier places best 0
-  best_init best none = record { at = λ goal left. none_max (slice_index (row_of goal best) left) (greatest (number_at goal earlier left) places) (none goal left) }
+module _ (earlier : List Rows) (places : List ℕ) (turns : ℕ) where
+  pub best_init : (best : Rows) → ((goal : Goal) (left : ℕ) → slice_index (row_of goal best) left ≡ 0) → BestSoFar earlier places turns best 0
+  best_init best none = record { at = λ goal left small. none_max (slice_index (row_of goal best) left) (greatest (number_at goal earlier left) places) (none goal left) }
     where
       none_max : (a b : ℕ) → a ≡ 0 → max a b ≡ b
       none_max a b e = omega arith
 
-  pub best_step : (best after other : Rows) (at place : ℕ) → at < length places → place ≡ get_or places at place → place < length earlier → ((goal : Goal) → AreGreater (row_of goal (slice_index_or earlier place other)) (row_of goal best) (row_of goal after)) → BestSoFar earlier places best at → BestSoFar earlier places after (at + 1)
+  pub best_step : (best after other : Rows) (at place : ℕ) → at < length places → place ≡ get_or places at place → place < length earlier → ((goal : Goal) → AreGreater turns (row_of goal (slice_index_or earlier place other)) (row_of goal best) (row_of goal after)) → BestSoFar earlier places turns best at → BestSoFar earlier places turns after (at + 1)
   best_step best after other at place low place_is inside greater so_far = record {
-    at = λ goal left.
-        up (slice_index (row_of goal after) left) (slice_index (row_of goal best) left) (slice_index (row_of goal (slice_index_or earlier place other)) left) (number_at goal earlier left place) (greatest (number_at goal earlier left) (drop at places)) (greatest (number_at goal earlier left) (drop (at + 1) places)) (greater goal left)
+    at = λ goal left small.
+        up (slice_index (row_of goal after) left) (slice_index (row_of goal best) left) (slice_index (row_of goal (slice_index_or earlier place other)) left) (number_at goal earlier left place) (greatest (number_at goal earlier left) (drop at places)) (greatest (number_at goal earlier left) (drop (at + 1) places)) (greater goal left small)
         (ap (λ (rows : Rows). slice_index (row_of goal rows) left) (get_or_default earlier place other no_rows inside)) (greatest_drop (number_at goal earlier left) places at place low place_is)
-        ∙ so_far.at goal left;
+        ∙ so_far.at goal left small;
   }
     where
       up : (a b o n m r : ℕ) → a ≡ max b o → o ≡ n → m ≡ max n r → max a r ≡ max b m
       up a b o n m r e f g = omega arith
 
-  pub best_end : (best : Rows) (at : ℕ) → length places ≤ at → BestSoFar earlier places best at → (goal : Goal) (left : ℕ) → slice_index (row_of goal best) left ≡ greatest (number_at goal earlier left) places
-  best_end best at past so_far goal left =
-      last (slice_index (row_of goal best) left) (greatest (number_at goal earlier left) (drop at places)) (ap (greatest (number_at goal earlier left)) (drop_all at places past) ∙ greatest_none (number_at goal earlier left)) ∙ so_far.at goal left
+  pub best_end : (best : Rows) (at : ℕ) → length places ≤ at → BestSoFar earlier places turns best at → (goal : Goal) (left : ℕ) → left < turns → slice_index (row_of goal best) left ≡ greatest (number_at goal earlier left) places
+  best_end best at past so_far goal left small =
+      last (slice_index (row_of goal best) left) (greatest (number_at goal earlier left) (drop at places)) (ap (greatest (number_at goal earlier left)) (drop_all at places past) ∙ greatest_none (number_at goal earlier left)) ∙ so_far.at goal left small
     where
       last : (a r : ℕ) → r ≡ 0 → a ≡ max a r
       last a r e = omega arith
@@ -95,17 +95,17 @@ module _ (earlier : List Rows) (draws : List Draw) (turns : ℕ) where
   pub sums_init : (sums : Rows) → ((goal : Goal) (left : ℕ) → slice_index (row_of goal sums) left ≡ 0) → SumsSoFar earlier draws turns sums 0
   sums_init sums none = record { at = λ goal left low. omega (arith, none goal left) }
 
-  module _ (sums best : Rows) (at : ℕ) (low : at < length draws) (draw : Draw) (draw_is : draw ≡ get_or draws at draw) (best_is : (goal : Goal) (left : ℕ) → slice_index (row_of goal best) left ≡ greatest (number_at goal earlier left) draw.rests.items) (so_far : SumsSoFar earlier draws turns sums at) where
-    own : (goal : Goal) (left : ℕ) → draws_value (number_at goal earlier left) (drop at draws) ≡ draw.live * slice_index (row_of goal best) left + draws_value (number_at goal earlier left) (drop (at + 1) draws)
-    own goal left =
+  module _ (sums best : Rows) (at : ℕ) (low : at < length draws) (draw : Draw) (draw_is : draw ≡ get_or draws at draw) (best_is : (goal : Goal) (left : ℕ) → left < turns → slice_index (row_of goal best) left ≡ greatest (number_at goal earlier left) draw.rests.items) (so_far : SumsSoFar earlier draws turns sums at) where
+    own : (goal : Goal) (left : ℕ) → left < turns → draws_value (number_at goal earlier left) (drop at draws) ≡ draw.live * slice_index (row_of goal best) left + draws_value (number_at goal earlier left) (drop (at + 1) draws)
+    own goal left small =
         sum_by-drop_more (draw_value (number_at goal earlier left)) draws at draw low ∙ ap (λ (d : Draw). draw_value (number_at goal earlier left) d + draws_value (number_at goal earlier left) (drop (at + 1) draws)) (sym draw_is)
-        ∙ ap (λ n. draw.live * n + draws_value (number_at goal earlier left) (drop (at + 1) draws)) (sym (best_is goal left))
+        ∙ ap (λ n. draw.live * n + draws_value (number_at goal earlier left) (drop (at + 1) draws)) (sym (best_is goal left small))
 
     pub sums_fit : ((goal : Goal) (left : ℕ) → left < turns → draws_value (number_at goal earlier left) draws < 2 ^ 128) → (goal : Goal) → FitTogether turns draw.live (row_of goal best) (row_of goal sums)
-    sums_fit fits goal left small = omega (arith, own goal left, so_far.at goal left small, fits goal left small)
+    sums_fit fits goal left small = omega (arith, own goal left small, so_far.at goal left small, fits goal left small)
 
     pub sums_step : (after : Rows) → ((goal : Goal) → AreAdded turns draw.live (row_of goal best) (row_of goal sums) (row_of goal after)) → SumsSoFar earlier draws turns after (at + 1)
-    sums_step after added = record { at = λ goal left small. omega (arith, added goal left small, own goal left, so_far.at goal left small) }
+    sums_step after added = record { at = λ goal left small. omega (arith, added goal left small, own goal left small, so_far.at goal left small) }
 
   pub sums_end : (sums : Rows) (at : ℕ) → length draws ≤ at → SumsSoFar earlier draws turns sums at → (goal : Goal) (left : ℕ) → left < turns → slice_index (row_of goal sums) left ≡ draws_value (number_at goal earlier left) draws
   sums_end sums at past so_far goal left small = omega (arith, so_far.at goal left small, ap (draws_value (number_at goal earlier left)) (drop_all at draws past), nothing (number_at goal earlier left))

@@ -33,8 +33,8 @@ abbrev pub AreAdded : ℕ → ℕ → List ℕ → List ℕ → List ℕ → Typ
 AreAdded turns times more before after = (left : ℕ) → left < turns → slice_index after left ≡ slice_index before left + times * slice_index more left
 
 -- of each two numbers the greater
-abbrev pub AreGreater : List ℕ → List ℕ → List ℕ → Type 0
-AreGreater other before after = (left : ℕ) → slice_index after left ≡ max (slice_index before left) (slice_index other left)
+abbrev pub AreGreater : ℕ → List ℕ → List ℕ → List ℕ → Type 0
+AreGreater turns other before after = (left : ℕ) → left < turns → slice_index after left ≡ max (slice_index before left) (slice_index other left)
 
 -- where the hand is ready, so that any of so many live tiles wins
 abbrev pub FollowReady : Span → ℕ → List ℕ → Type 0

@@ -80,21 +80,22 @@ fn begun(draws: &[Draw], earlier: &[Rows], turns: u8) -> Rows
 {
     let mut sums = Rows::none();
     for draw in draws {
-        let best = best_of(draw.rests.as_slice(), earlier);
+        let best = best_of(draw.rests.as_slice(), earlier, turns);
         sums.add_times(&best, draw.live, turns);
     }
     sums
 }
 
 /// The greatest numbers of some places.
-fn best_of(places: &[usize], earlier: &[Rows]) -> Rows
-    requires { spec.AreBefore (length earlier.now) places.now }
-    ensures { (goal : Goal) (left : ℕ) → slice_index (row_of goal result) left
+fn best_of(places: &[usize], earlier: &[Rows], turns: u8) -> Rows
+    requires turns { turns ≤ 18 }
+    requires before { spec.AreBefore (length earlier.now) places.now }
+    ensures { (goal : Goal) (left : ℕ) → left < turns → slice_index (row_of goal result) left
         ≡ greatest (spec.number_at goal earlier.now left) places.now }
 {
     let mut best = Rows::none();
     for place in places {
-        best.keep_greater(&earlier[*place]);
+        best.keep_greater(&earlier[*place], turns);
     }
     best
 }

@@ -35,10 +35,12 @@ impl Rows {
     }
 
     /// Keeps of each two numbers the greater.
-    pub fn keep_greater(&mut self, other: &Rows)
-        ensures { (goal : Goal) → spec.AreGreater (row_of goal other.now) (row_of goal self.old) (row_of goal self.new) }
+    pub fn keep_greater(&mut self, other: &Rows, turns: u8)
+        requires { turns ≤ 18 }
+        ensures { (goal : Goal)
+            → spec.AreGreater turns (row_of goal other.now) (row_of goal self.old) (row_of goal self.new) }
     {
-        keep_greater(&mut self.ready, &other.ready);
-        keep_greater(&mut self.win, &other.win);
+        keep_greater(&mut self.ready, &other.ready, turns);
+        keep_greater(&mut self.win, &other.win, turns);
     }
 }

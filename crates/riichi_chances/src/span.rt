@@ -69,10 +69,12 @@ pub(crate) fn add_times(sums: &mut ByTurns, more: &ByTurns, times: u8, turns: u8
 }
 
 /// Keeps of each two numbers the greater.
-pub(crate) fn keep_greater(best: &mut ByTurns, other: &ByTurns)
-    ensures { spec.AreGreater other.now best.old best.new }
+pub(crate) fn keep_greater(best: &mut ByTurns, other: &ByTurns, turns: u8)
+    requires { turns ≤ 18 }
+    ensures { spec.AreGreater turns other.now best.old best.new }
 {
-    for place in 0..19usize {
+    for left in 0..turns {
+        let place = left as usize;
         best[place] = best[place].max(other[place]);
     }
 }
