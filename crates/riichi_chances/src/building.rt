@@ -46,7 +46,8 @@ fn node_of<R: RowSource>(
     requires whole { IsThirteen asked.now }
     requires graph { spec.IsGraph asked.now graph.old }
     ensures grows { OnOk result (spec.Grows asked.now graph.old graph.new) }
-    ensures node { IfOk result (spec.IsNode graph.new.hands.keys (length graph.new.nodes.items) asked.now) }
+    ensures node { IfOk result
+        (spec.IsNode graph.new.hands.keys (length graph.new.nodes.items) asked.now) }
     ensures stays { source.new ≡ source.old }
 {
     let answer = shape_with(source, asked);
@@ -80,12 +81,15 @@ fn draws_of<R: RowSource>(
     accepted: &LiveList,
 ) -> Result<Vec<Draw>, ChancesFault>
     requires whole { IsThirteen asked.now }
-    requires accepted { accepted.now ≡ accepted_of asked.now.tiles asked.now.melds asked.now.seen }
+    requires accepted { accepted.now
+        ≡ accepted_of asked.now.tiles asked.now.melds asked.now.seen }
     requires far { 1 < distance_of asked.now.tiles asked.now.melds }
     requires graph { spec.IsGraph asked.now graph.old }
     ensures grows { OnOk result (spec.Grows asked.now graph.old graph.new) }
-    ensures before { IfOk result (λ draws. spec.LeadBefore (length graph.new.nodes.items) draws.items) }
-    ensures leads { IfOk result (λ draws. spec.LeadTo graph.new.hands.keys draws.items asked.now) }
+    ensures before { IfOk result
+        (λ draws. spec.LeadBefore (length graph.new.nodes.items) draws.items) }
+    ensures leads { IfOk result
+        (λ draws. spec.LeadTo graph.new.hands.keys draws.items asked.now) }
     ensures stays { source.new ≡ source.old }
 {
     let mut draws = Vec::new(graph.alloc);
@@ -112,8 +116,10 @@ fn rests_of<R: RowSource>(
     requires far { 0 < distance_of drawn.now.tiles drawn.now.melds }
     requires graph { spec.IsGraph drawn.now graph.old }
     ensures grows { OnOk result (spec.Grows drawn.now graph.old graph.new) }
-    ensures before { IfOk result (λ rests. spec.AreBefore (length graph.new.nodes.items) rests.items) }
-    ensures rests { IfOk result (λ rests. spec.AreRests graph.new.hands.keys rests.items drawn.now) }
+    ensures before { IfOk result
+        (λ rests. spec.AreBefore (length graph.new.nodes.items) rests.items) }
+    ensures rests { IfOk result
+        (λ rests. spec.AreRests graph.new.hands.keys rests.items drawn.now) }
     ensures stays { source.new ≡ source.old }
 {
     let answer = shape_with(source, drawn);
@@ -132,12 +138,15 @@ fn places_of<R: RowSource>(
     discards: &DiscardList,
 ) -> Result<Vec<usize>, ChancesFault>
     requires whole { IsFourteen drawn.now }
-    requires discards { discards.now ≡ discards_of drawn.now.tiles drawn.now.melds drawn.now.seen }
+    requires discards { discards.now
+        ≡ discards_of drawn.now.tiles drawn.now.melds drawn.now.seen }
     requires far { 0 < distance_of drawn.now.tiles drawn.now.melds }
     requires graph { spec.IsGraph drawn.now graph.old }
     ensures grows { OnOk result (spec.Grows drawn.now graph.old graph.new) }
-    ensures before { IfOk result (λ rests. spec.AreBefore (length graph.new.nodes.items) rests.items) }
-    ensures rests { IfOk result (λ rests. spec.AreRests graph.new.hands.keys rests.items drawn.now) }
+    ensures before { IfOk result
+        (λ rests. spec.AreBefore (length graph.new.nodes.items) rests.items) }
+    ensures rests { IfOk result
+        (λ rests. spec.AreRests graph.new.hands.keys rests.items drawn.now) }
     ensures stays { source.new ≡ source.old }
 {
     let mut places = Vec::new(graph.alloc);

@@ -37,7 +37,8 @@ fn rows_at(graph: &Graph, place: usize, earlier: &[Rows], span: Span) -> Rows
         × spec.AreRows span root graph.now.hands.keys earlier.now }
     requires inside { place < length graph.now.nodes.items }
     requires all_before { length earlier.now ≡ place }
-    ensures { (root : ShapeParts) → spec.IsGraph root graph.now → spec.AreRows span root graph.now.hands.keys earlier.now
+    ensures { (root : ShapeParts) → spec.IsGraph root graph.now
+        → spec.AreRows span root graph.now.hands.keys earlier.now
         → HasRows span (spec.hand_at root graph.now.hands.keys place) result }
 {
     let node = &graph.nodes[place];

@@ -29,7 +29,8 @@ pub fn discard_chances<R: RowSource>(
 ) -> Result<Vec<DiscardChances>, ChancesFault>
     requires fourteen { size asked.now.tiles asked.now.melds ≡ 14 }
     requires turns { turns ≤ 18 }
-    ensures each { IfOk result (λ each. map (λ one. one.kind) each.items ≡ map (λ discard. discard.kind) (discards_of asked.now.tiles asked.now.melds asked.now.seen)) }
+    ensures each { IfOk result (λ each. map (λ one. one.kind) each.items
+        ≡ map (λ discard. discard.kind) (discards_of asked.now.tiles asked.now.melds asked.now.seen)) }
     ensures chances { IfOk result (λ each. spec.AreAfter asked.now turns each.items) }
     ensures stays { source.new ≡ source.old }
 {
@@ -51,9 +52,11 @@ fn after_each<R: RowSource>(
     most_hands: usize,
 ) -> Result<Vec<DiscardChances>, ChancesFault>
     requires fourteen { size asked.now.tiles asked.now.melds ≡ 14 }
-    requires discards { discards.now ≡ discards_of asked.now.tiles asked.now.melds asked.now.seen }
+    requires discards { discards.now
+        ≡ discards_of asked.now.tiles asked.now.melds asked.now.seen }
     requires turns { turns ≤ 18 }
-    ensures each { IfOk result (λ each. map (λ one. one.kind) each.items ≡ map (λ discard. discard.kind) discards.now) }
+    ensures each { IfOk result (λ each. map (λ one. one.kind) each.items
+        ≡ map (λ discard. discard.kind) discards.now) }
     ensures chances { IfOk result (λ each. spec.AreAfter asked.now turns each.items) }
     ensures stays { source.new ≡ source.old }
 {

@@ -27,8 +27,10 @@ impl Rows {
     /// Adds so many times each number.
     pub fn add_times(&mut self, more: &Rows, times: u8, turns: u8)
         requires turns { turns ≤ 18 }
-        requires fits { (goal : Goal) → spec.FitTogether turns times (row_of goal more.now) (row_of goal self.old) }
-        ensures { (goal : Goal) → spec.AreAdded turns times (row_of goal more.now) (row_of goal self.old) (row_of goal self.new) }
+        requires fits { (goal : Goal)
+            → spec.FitTogether turns times (row_of goal more.now) (row_of goal self.old) }
+        ensures { (goal : Goal) → spec.AreAdded turns times
+            (row_of goal more.now) (row_of goal self.old) (row_of goal self.new) }
     {
         add_times(&mut self.ready, &more.ready, times, turns);
         add_times(&mut self.win, &more.win, times, turns);
@@ -37,8 +39,8 @@ impl Rows {
     /// Keeps of each two numbers the greater.
     pub fn keep_greater(&mut self, other: &Rows, turns: u8)
         requires { turns ≤ 18 }
-        ensures { (goal : Goal)
-            → spec.AreGreater turns (row_of goal other.now) (row_of goal self.old) (row_of goal self.new) }
+        ensures { (goal : Goal) → spec.AreGreater turns
+            (row_of goal other.now) (row_of goal self.old) (row_of goal self.new) }
     {
         keep_greater(&mut self.ready, &other.ready, turns);
         keep_greater(&mut self.win, &other.win, turns);
