@@ -41,14 +41,6 @@ class Record:
     kinds: Counter[str] = field(default_factory=Counter)
     wrong: list[str] = field(default_factory=list)
 
-    def add(self, other: Record) -> None:
-        """What others were answered, at other tables."""
-        self.answered.update(other.answered)
-        self.seconds += other.seconds
-        self.came.update(other.came)
-        self.kinds.update(other.kinds)
-        self.wrong += other.wrong
-
     def take(self, key: tuple[int, int], number: int, line: str, told: dict[str, Any]) -> None:
         """An answer to a deal: the same as any before it."""
         known = self.answered.setdefault(key, {})

@@ -13,7 +13,7 @@ from pathlib import Path
 from . import files, links
 from .bounds import Bounds
 from .hall import Hall
-from .listening import Server, bound_socket, config_of, raise_files, take_turns
+from .listening import Server, bound_socket, config_of, raise_files
 from .program import Program, found
 from .refusals import Reason, Refused
 from .store import Store
@@ -77,7 +77,6 @@ def serve(given: argparse.Namespace) -> int:
         if given.players is not None and store.is_empty():
             make(given, store, program)
         raise_files(Bounds.connections)
-        take_turns()
         asyncio.run(_serve(given, store, program))
     except KeyboardInterrupt:
         pass

@@ -6,7 +6,6 @@ import asyncio
 import logging
 import resource
 import socket
-import sys
 from collections.abc import Callable
 from typing import Any
 
@@ -20,10 +19,6 @@ from .hall import Hall
 
 OWN = ("127.0.0.1", "::1")
 """The addresses from which a proxy on this machine passes on what all the others send."""
-
-TURN = 0.0005
-"""Seconds that a thread runs while another waits. The loop and the writer take turns many times a request: at Python's 5 ms each of
-them would wait that long for what takes the other a fraction of it."""
 
 LAST = 5.0
 """Seconds that the answers under way have when the hall closes."""
@@ -146,11 +141,6 @@ def bound_socket(address: str, port: int) -> socket.socket:
     listening.setsockopt(socket.SOL_SOCKET, socket.SO_REUSEADDR, 1)
     listening.bind((address, port))
     return listening
-
-
-def take_turns() -> None:
-    """Has threads take turns as often as TURN says."""
-    sys.setswitchinterval(TURN)
 
 
 def raise_files(wanted: int) -> None:
