@@ -6,6 +6,9 @@
 //! `bench pool PROGRAM [LINES]` times `score` beside `line`;
 //! `bench study < FILE` answers questions of shapes and calls, each by its definition, and `bench studies [COUNT [SEED]]` writes
 //! random ones; `bench safe < FILE` answers lines of furiten and safe tiles, and `bench safes [COUNT [SEED]]` writes random ones;
+//! `bench chances TURNS [definition] < FILE` counts the draws by which the hands of `shape` lines are ready and win, `bench chance-games
+//! [COUNT [SEED]]` writes small games for it, and `bench chance-hands [COUNT [SEED [TILES [LACK]]]]` hands as they are dealt; `bench chance-times
+//! TIMED [HANDS]` times the program that `time_chances` makes;
 //! `bench ledger < FILE` answers a text of games, `bench need NAME [PLACE [NAMES]] < FILE` says what a player needs, and
 //! `bench games [COUNT [SEED [FOLDER]]]` writes random texts of games;
 //! `bench seats < FILE` checks the games of a tournament's sessions, as `seats` writes them, and what their notes claim;
@@ -13,6 +16,7 @@
 //! `bench tournament PLAYERS SESSIONS SEED FOLDER` writes the games of a random one.
 mod answer;
 mod best;
+mod chances;
 mod clock;
 mod deeper;
 mod house;
@@ -71,6 +75,19 @@ fn main() -> std::io::Result<()> {
             let number = |at: usize, or| words.get(at).and_then(|word| word.parse().ok()).unwrap_or(or);
             safe::write_lines(number(2, 1000), number(3, 1) as u64)
         }
+        Some("chances") => {
+            let turns = words.get(2).and_then(|word| word.parse().ok()).unwrap_or(17);
+            chances::answer(turns, words.get(3).map(String::as_str) == Some("definition"))
+        }
+        Some("chance-times") => chances::measure(&words[2], words.get(3).and_then(|word| word.parse().ok()).unwrap_or(100)),
+        Some("chance-games") => {
+            let number = |at: usize, or| words.get(at).and_then(|word| word.parse().ok()).unwrap_or(or);
+            chances::write_small(number(2, 1000), number(3, 1) as u64)
+        }
+        Some("chance-hands") => {
+            let number = |at: usize, or| words.get(at).and_then(|word| word.parse().ok()).unwrap_or(or);
+            chances::write_dealt(number(2, 1000), number(3, 1) as u64, number(4, 13), number(5, 4) as u8)
+        }
         Some("standings") => ledger::answer_standings(&words[2..]),
         Some("tournament") => {
             let number = |at: usize| words.get(at).and_then(|word| word.parse().ok()).unwrap_or(4);
@@ -91,7 +108,7 @@ fn main() -> std::io::Result<()> {
             Ok(())
         }
         None => {
-            eprintln!("usage: bench PROGRAM [LINES] | bench best TIMED | bench shapes TIMED [HANDS] | bench pool PROGRAM [LINES] | bench answer [RULES] < FILE | bench study < FILE | bench studies [COUNT [SEED]] | bench safe < FILE | bench safes [COUNT [SEED]] | bench games [COUNT [SEED [FOLDER]]] | bench ledger [--coverage] < FILE | bench standings [firsts|best] FILE.. | bench tournament PLAYERS SESSIONS SEED FOLDER | bench need NAME [PLACE [NAMES]] < FILE | bench seats < FILE | bench lines win|waits|shape13|shape14|mixed COUNT");
+            eprintln!("usage: bench PROGRAM [LINES] | bench best TIMED | bench shapes TIMED [HANDS] | bench pool PROGRAM [LINES] | bench answer [RULES] < FILE | bench study < FILE | bench studies [COUNT [SEED]] | bench safe < FILE | bench safes [COUNT [SEED]] | bench chances TURNS [definition] < FILE | bench chance-times TIMED [HANDS] | bench chance-games [COUNT [SEED]] | bench chance-hands [COUNT [SEED [TILES [LACK]]]] | bench games [COUNT [SEED [FOLDER]]] | bench ledger [--coverage] < FILE | bench standings [firsts|best] FILE.. | bench tournament PLAYERS SESSIONS SEED FOLDER | bench need NAME [PLACE [NAMES]] < FILE | bench seats < FILE | bench lines win|waits|shape13|shape14|mixed COUNT");
             std::process::exit(2)
         }
     }

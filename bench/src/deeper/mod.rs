@@ -7,4 +7,4 @@ pub mod random;
 mod text;
 
 pub use random::write_lines;
-pub use text::answer;
+pub use text::{answer, read_hand};

@@ -51,7 +51,7 @@ pub fn random_hand(dice: &mut Dice, known: &mut Known, size: usize) -> Hand {
 }
 
 /// Takes a random tile away, and puts one there that brings the hand nearer, where there is one.
-fn approach(dice: &mut Dice, known: &mut Known, hand: &mut Hand) {
+pub fn approach(dice: &mut Dice, known: &mut Known, hand: &mut Hand) {
     let held: Vec<usize> = (0..34).filter(|&kind| hand.tiles[kind] > 0).collect();
     let thrown = held[dice.below(held.len())];
     let mut less = *hand;

@@ -47,6 +47,12 @@ fn read(words: &[&str]) -> Option<Asked> {
     Some(asked)
 }
 
+/// The hand of a line, behind its first word.
+pub fn read_hand(line: &str) -> Option<Hand> {
+    let words: Vec<&str> = line.split(' ').collect();
+    read(&words[1..]).map(|asked| asked.hand)
+}
+
 pub fn write_meld(out: &mut Vec<u8>, meld: Meld) {
     let (name, mut counts) = match meld {
         Meld::Chi(_) => ("chi:", [0; 34]),
