@@ -156,6 +156,39 @@ row 1 $'1:shanten 0 accepts 2p:4 5p:4 live 8\n2:refused H2\n1:shanten 0 accepts 
 row 0 $'shanten 0 accepts 2p:4 5p:4 live 8\ncalls none' '' study 'shape 123456789m1134p' "calls $near tile=3p from=right"
 row 2 '' 'cannot be used with' study 'shape 8z' --file "$room/two"
 row 3 '' 'nowhere' study --file nowhere
+# by several threads: the same bytes, whichever the form, of a text with notes, blank lines, refused lines, rules first and no end last
+row 2 '' "invalid value '0' for '--workers <N>'" study --workers 0
+row 2 '' "invalid value '17' for '--workers <N>'" study --workers 17
+row 2 '' "'--number'" study --workers 2 --number
+awk -v near=$near -v wide=$wide 'BEGIN {
+  print "rules 2"
+  for (n = 0; n < 4000; n++) {
+    seen = sprintf("seen=%dm%dp%ds", n % 9 + 1, int(n / 9) % 9 + 1, int(n / 81) % 9 + 1)
+    if (n % 10 == 3) print "# " n
+    else if (n % 10 == 5) print n % 20 == 5 ? "" : "rules 2"
+    else if (n % 10 == 7) print "shape 12x" n "m"
+    else if (n % 10 == 2) printf "calls %s tile=%dp from=left %s\r\n", near, n % 9 + 1, seen
+    else if (n % 100 == 1) print "shape", wide, "order=good", seen
+    else print n % 10 == 4 ? "safe" : "shape", near, seen
+  }
+  printf "shape 8z"
+}' > "$room/many"
+told 'so many questions' 4002 "$(awk 'END { print NR }' "$room/many")"
+# studies WORDS..: what `study` writes, as a checksum, and its status
+studies() {
+  { "$program" study "$@" 2>&1; echo "status $?"; } | sha256sum
+}
+for workers in 1 2 3 16; do
+  for form in '' --explain --json; do
+    told "study $form by $workers workers" "$(studies $form --file "$room/many" "$room/two")" "$(studies $form --workers $workers --file "$room/many" "$room/two")"
+  done
+  told "a text of questions by $workers workers" "$(studies < "$room/many")" "$(studies --workers $workers < "$room/many")"
+  told "no questions by $workers workers" "$(studies < /dev/null)" "$(studies --workers $workers < /dev/null)"
+  told "a folder of questions and $workers workers" "$(studies < "$room")" "$(studies --workers $workers < "$room")"
+  told "questions, a full disk and $workers workers" "$("$program" study < "$room/many" 2>&1 > /dev/full; echo "status $?")" \
+    "$("$program" study --workers $workers < "$room/many" 2>&1 > /dev/full; echo "status $?")"
+done
+row 0 'shanten 0 accepts 2p:4 5p:4 live 8' '' study --workers 2 shape 123456789m1134p
 : > "$room/input"
 row 0 '' '' study
 told 'study and a full disk' "riichi_desk: fault F2: the answers can't be written

@@ -28,6 +28,7 @@ use Rattle.desk_cli.specs.declared.request.StandingsForm.{StandingsForm}
 use Rattle.desk_cli.specs.declared.request.StandingsForm.TheVariants as standings_forms
 use Rattle.desk_cli.specs.declared.request.StudyForm.{StudyForm}
 use Rattle.desk_cli.specs.declared.request.StudyForm.TheVariants as study_forms
+use Rattle.desk_cli.specs.declared.request.StudyManner.{StudyManner}
 use Rattle.desk_cli.specs.declared.request.StandingsRequest.{StandingsRequest}
 use Rattle.desk_cli.specs.declared.request.TieWord.{TieWord}
 use Rattle.desk_cli.specs.declared.request.TieWord.TheVariants as tie_words
@@ -176,10 +177,14 @@ pub record IsStudyForm (found : Found) (form : StudyForm) : Type 0 where
   pub explain_given : IsFlag found (codes "explain") explain
   pub form_is : form ≡ (if json then study_forms.Objects else if explain then study_forms.Explained else study_forms.Answers)
 
+pub record IsStudyManner (found : Found) (manner : StudyManner) : Type 0 where
+  pub form : IsStudyForm found manner.form
+  pub numbers : IsFlag found (codes "number") manner.is_numbered
+  pub workers : IsNumber found (codes "workers") manner.workers
+
 -- questions are to be answered
 abbrev pub AsksForStudy : Found → Request → Type 0
-AsksForStudy found (requests.Study lines form is_numbered) =
-    AreStudied found lines × IsStudyForm found form × IsFlag found (codes "number") is_numbered
+AsksForStudy found (requests.Study lines manner) = AreStudied found lines × IsStudyManner found manner
 AsksForStudy found other = ⊥
 
 abbrev pub AsksForReplay : Found → Option Request → Type 0

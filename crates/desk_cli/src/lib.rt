@@ -19,7 +19,7 @@ pub use command::CommandName;
 pub use help::EXIT_STATUSES;
 pub use request::{
     Form, GameForm, GameManner, Lines, Manner, NeedRequest, Request, SeatsRequest, StandingsForm,
-    StandingsRequest, StudyForm, TieWord, request_of,
+    StandingsRequest, StudyForm, StudyManner, TieWord, request_of,
 };
 pub use rules::nearest_rule;
 pub use words::commands;

@@ -26,9 +26,7 @@ pub enum Request<'m, 'a> {
     /// The answers to questions of a player or a trainer.
     Study {
         lines: Lines<'m, 'a>,
-        form: StudyForm,
-        /// Whether each answer tells the number of its line.
-        is_numbered: bool,
+        manner: StudyManner,
     },
     /// Every code in words.
     HelpCodes,
@@ -62,6 +60,16 @@ pub enum Request<'m, 'a> {
         /// Whether it isn't to be shown how far the answers are.
         is_quiet: bool,
     },
+}
+
+/// How questions are answered.
+#[derive(Clone, Copy)]
+pub struct StudyManner {
+    pub form: StudyForm,
+    /// Whether each answer tells the number of its line.
+    pub is_numbered: bool,
+    /// By how many threads, where there may be several.
+    pub workers: Option<u32>,
 }
 
 /// How answers to questions are written.
@@ -276,8 +284,11 @@ fn study_request<'m, 'a>(words: &'m ArgMatches<'a>) -> Request<'m, 'a>
     };
     Request::Study {
         lines,
-        form: study_form_in(words),
-        is_numbered: words.get_flag("number"),
+        manner: StudyManner {
+            form: study_form_in(words),
+            is_numbered: words.get_flag("number"),
+            workers: words.get_one("workers"),
+        },
     }
 }
 

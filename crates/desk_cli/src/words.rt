@@ -233,11 +233,13 @@ fn lines_arg<'a>(alloc: Global) -> Result<Arg<'a>, AllocError> {
 }
 
 fn study_command<'a>(alloc: Global) -> Result<Command<'a>, AllocError> {
+    let workers = line_workers_arg(alloc)?;
     let json = study_json_arg(alloc)?;
     let lines = questions_arg(alloc)?;
     let args = vec![in alloc;
         file_arg(alloc),
         number_arg(alloc),
+        workers,
         study_explain_arg(alloc),
         json,
         lines,

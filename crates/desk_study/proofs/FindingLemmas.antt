@@ -1,5 +1,5 @@
 -- What is found is what the question asks.
-use Rattle.std.proofs.Common.{◌≡◌, ℕ, ℤ, Bool, true, false, List, [], ◌∷◌, ◌++◌, Option, None, Some, map, refl, sym, ap, ◌∙◌}
+use Rattle.std.proofs.Common.{◌≡◌, ℕ, ℤ, Bool, true, false, List, [], ◌∷◌, Option, map, refl, sym, ap, ◌∙◌}
 use Rattle.std.specs.Prelude.{if◌then◌else◌}
 use Rattle.riichi_hand.specs.Hand.{IsShape, is_thirteen, size}
 use Rattle.riichi_hand.specs.HandParts.{ShapeParts}
@@ -17,7 +17,7 @@ use Rattle.riichi_deeper.specs.declared.gains.Call.{Call}
 use Rattle.riichi_deeper.specs.declared.outlook.Outlook.{Outlook}
 use Rattle.riichi_deeper.specs.declared.thrown.Thrown.{Thrown}
 use Rattle.riichi_study.specs.CallParts.{CallParts}
-use Rattle.riichi_study.specs.Findings.{Finding, Calls, Discards, Hand, calls_finding, shape_finding}
+use Rattle.riichi_study.specs.Findings.{Calls, Discards, Hand, calls_finding, shape_finding}
 use Rattle.riichi_study.specs.Prospects.{kept_prospect, ordered_discards, prospect_of, prospects_of}
 use Rattle.riichi_study.specs.declared.order.Order.{Order}
 use Rattle.riichi_study.specs.declared.prospect.Prospect.{Prospect}

@@ -3,7 +3,7 @@ use Rattle.std.proofs.Common.{◌≡◌, ℕ, ◌+◌, ◌<◌, Bool, true, fals
 use Rattle.std.proofs.lemmas.List.{append-nil, map-append, take_more}
 use Rattle.std.proofs.lemmas.List.Elements.{filter_map-append}
 use Rattle.std.specs.Prelude.{◌||◌}
-use Rattle.std.specs.List.{filter_map, flat_map}
+use Rattle.std.specs.List.{flat_map}
 use Rattle.desk_json.proofs.Lists.{begun_one_more, is_begun, joined_more}
 use Rattle.desk_json.specs.Parts.{comma_if, listed}
 use Rattle.desk_study.specs.Answers.{all_there, something_there, listed_next}

@@ -4,15 +4,12 @@ use Rattle.std.proofs.lemmas.Bool.{lt-ltb}
 use Rattle.std.proofs.lemmas.List.{append-nil}
 use Rattle.std.specs.Prelude.{◌==◌, ◌&&◌, is_some, if◌then◌else◌, false}
 use Rattle.std.specs.List.{list_any}
-use Rattle.riichi_hand.specs.FaultTexts.{fault_text}
 use Rattle.riichi_hand.specs.Lines.{is_other_byte}
 use Rattle.riichi_hand.specs.Rules.{Rules}
 use Rattle.riichi_hand.specs.Words.{words_of}
 use Rattle.riichi_hand.specs.declared.fault.LineCode.TheVariants.{H1}
-use Rattle.riichi_hand.specs.declared.fault.LineFault.{LineFault}
 use Rattle.riichi_hand.specs.declared.fault.LineFault.TheVariants.{Line}
 use Rattle.riichi_study.specs.Lines.{is_note, line_asked, study_of}
-use Rattle.riichi_study.specs.declared.study.Study.{Study}
 use Rattle.desk_lines.specs.LongLines.{long_profile}
 use Rattle.desk_lines.specs.Profile.{profile_of}
 use Rattle.desk_lines.specs.Telling.{IsToldAs, answers_in, report_of, report_with}
@@ -66,20 +63,24 @@ one_before number count = omega arith
 length_more : (line : List ℕ) (lines : List (List ℕ)) → length (line ∷ lines) ≡ length lines + 1
 length_more line lines = omega arith
 
-answers_more : (manner : StudiesManner) (number : ℕ) (lines : List (List ℕ)) (next : List ℕ) → question_answers manner number (lines ++ next ∷ []) ≡ question_answers manner number lines ++ answers_in (question_answer manner (number + length lines) next)
-answers_more manner number [] next =
-    append-nil (answers_in (question_answer manner number next)) ∙ ap (λ n. answers_in (question_answer manner n next)) (none_before number)
-answers_more manner number (line ∷ lines) next =
+-- the answers to more lines follow those to the first
+pub answers_on : (manner : StudiesManner) (number : ℕ) (lines more : List (List ℕ)) → question_answers manner number (lines ++ more) ≡ question_answers manner number lines ++ question_answers manner (number + length lines) more
+answers_on manner number [] more = ap (λ n. question_answers manner n more) (none_before number)
+answers_on manner number (line ∷ lines) more =
     let first = answers_in (question_answer manner number line) in
-    ap (λ (others : List (List ℕ)). first ++ others) (answers_more manner (number + 1) lines next)
-    ∙ sym (append_assoc first (question_answers manner (number + 1) lines) (answers_in (question_answer manner (number + 1 + length lines) next)))
-    ∙ ap (λ n. (first ++ question_answers manner (number + 1) lines) ++ answers_in (question_answer manner n next)) (one_before number (length lines) ∙ ap (λ k. number + k) (sym (length_more line lines)))
+    ap (λ (others : List (List ℕ)). first ++ others) (answers_on manner (number + 1) lines more)
+    ∙ sym (append_assoc first (question_answers manner (number + 1) lines) (question_answers manner (number + 1 + length lines) more))
+    ∙ ap (λ n. (first ++ question_answers manner (number + 1) lines) ++ question_answers manner n more) (one_before number (length lines) ∙ ap (λ k. number + k) (sym (length_more line lines)))
 
-kinds_more : (number : ℕ) (lines : List (List ℕ)) (next : List ℕ) → question_kinds number (lines ++ next ∷ []) ≡ question_kinds number lines ++ question_kind (number + length lines) next ∷ []
-kinds_more number [] next = ap (λ n. question_kind n next ∷ []) (none_before number)
-kinds_more number (line ∷ lines) next =
-    ap (λ (others : List LineKind). question_kind number line ∷ others) (kinds_more (number + 1) lines next)
-    ∙ ap (λ n. question_kind number line ∷ question_kinds (number + 1) lines ++ question_kind n next ∷ []) (one_before number (length lines) ∙ ap (λ k. number + k) (sym (length_more line lines)))
+answers_more : (manner : StudiesManner) (number : ℕ) (lines : List (List ℕ)) (next : List ℕ) → question_answers manner number (lines ++ next ∷ []) ≡ question_answers manner number lines ++ answers_in (question_answer manner (number + length lines) next)
+answers_more manner number lines next =
+    answers_on manner number lines (next ∷ []) ∙ ap (λ (last : List (List ℕ)). question_answers manner number lines ++ last) (append-nil (answers_in (question_answer manner (number + length lines) next)))
+
+pub kinds_on : (number : ℕ) (lines more : List (List ℕ)) → question_kinds number (lines ++ more) ≡ question_kinds number lines ++ question_kinds (number + length lines) more
+kinds_on number [] more = ap (λ n. question_kinds n more) (none_before number)
+kinds_on number (line ∷ lines) more =
+    ap (λ (others : List LineKind). question_kind number line ∷ others) (kinds_on (number + 1) lines more)
+    ∙ ap (λ n. question_kind number line ∷ question_kinds (number + 1) lines ++ question_kinds n more) (one_before number (length lines) ∙ ap (λ k. number + k) (sym (length_more line lines)))
 
 pub tells_more : (first now : Questions) (number : ℕ) (line : List ℕ) (kind : LineKind) (lines told : List (List ℕ)) (report : DeskReport) (next : List ℕ) → kind ≡ question_kind number line → number ≡ length lines + 1 → IsToldAs 4096 line next
     → HasAnswered first now lines told report → HasAnswered first now (lines ++ next ∷ []) (told ++ answers_in (question_answer now.manner number line)) (report_with report kind)
@@ -93,7 +94,7 @@ tells_more first now number line kind lines told report next kind_is counted as_
       ap (λ (r : DeskReport). report_with r kind) tells.report_is
       ∙ ap (λ k. report_with (report_of (question_kinds 1 lines)) k) (kind_is ∙ kind_as_told number line next as_this ∙ ap (λ n. question_kind n next) number_is)
       ∙ sym (report_of_more (question_kinds 1 lines) (question_kind (1 + length lines) next))
-      ∙ ap report_of (sym (kinds_more 1 lines next));
+      ∙ ap report_of (sym (kinds_on 1 lines (next ∷ [])));
 }
   where
     number_is : number ≡ 1 + length lines

@@ -15,10 +15,12 @@
 //! ```
 #![tactic(auto)]
 
+mod beside;
 mod calls;
 mod form;
 mod members;
 mod objects;
+mod part;
 mod plain;
 mod puts;
 mod questions;
@@ -28,6 +30,7 @@ mod safe_objects;
 mod shapes;
 mod text;
 
+pub use beside::study_text_by;
 pub use desk_lines::{DeskFault, DeskReport};
 pub use form::{StudiesForm, StudiesManner};
 pub use questions::Questions;

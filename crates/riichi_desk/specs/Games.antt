@@ -43,3 +43,9 @@ pub data AnswersAllGames {W : Type 0} (sink : OfSink W) (manner : GameManner) (i
   none : AnswersAllGames sink manner is_hinted start [] start false
   one_more : (texts : List (List ℕ)) (text : List ℕ) (old new : W) (was is : Bool) → AnswersAllGames sink manner is_hinted start texts old was → AnswersGames sink manner is_hinted old new text is
       → AnswersAllGames sink manner is_hinted start (texts ++ text ∷ []) new (was || is)
+
+-- What is wrong with a refused line is told with reasons, and where the answers alone are shown on a terminal.
+abbrev pub has_hints : GameForm → Bool → Bool
+has_hints asked.Explained has_output = true
+has_hints asked.Answers has_output = has_output
+has_hints other has_output = false

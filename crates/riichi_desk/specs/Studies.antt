@@ -1,5 +1,5 @@
 -- What is written for texts of questions, and when a line of one is refused.
-use Rattle.std.specs.Prelude.{◌≡◌, ◌||◌, ℕ, Bool, false, List, [], ◌∷◌, ◌++◌, nat_lt}
+use Rattle.std.specs.Prelude.{◌≡◌, ◌||◌, ℕ, Bool, false, List, [], ◌∷◌, ◌++◌, length, nat_lt}
 use Rattle.desk_io.specs.declared.sink.Sink.{Ghosts as OfSink}
 use Rattle.desk_lines.specs.Lines.{lines}
 use Rattle.desk_lines.specs.Streams.{WritesAll}
@@ -13,6 +13,7 @@ use Rattle.desk_cli.specs.declared.request.Lines.{Lines}
 use Rattle.desk_cli.specs.declared.request.Lines.TheVariants as sources
 use Rattle.desk_cli.specs.declared.request.StudyForm.{StudyForm}
 use Rattle.desk_cli.specs.declared.request.StudyForm.TheVariants as forms
+use Rattle.desk_cli.specs.declared.request.StudyManner.{StudyManner}
 use Rattle.riichi_desk.specs.Told.{each_line, one_line}
 
 -- a line of a text of questions is refused
@@ -30,14 +31,26 @@ pub data AnswersAllStudies {W : Type 0} (sink : OfSink W) (manner : StudiesManne
   one_more : (texts : List (List ℕ)) (text : List ℕ) (old new : W) (was is : Bool) → AnswersAllStudies sink manner start texts old was → AnswersStudies sink manner old new text is
       → AnswersAllStudies sink manner start (texts ++ text ∷ []) new (was || is)
 
--- Of questions that are words it is told whether one is refused; what standard input and files hold isn't known.
-abbrev pub TellsStudied : Lines → Bool → Type 0
-TellsStudied (sources.Each words) is_refused = is_refused ≡ has_refused_question (each_line (texts words.now))
-TellsStudied (sources.One words) is_refused = is_refused ≡ has_refused_question (one_line (texts words.now))
-TellsStudied other is_refused = Unit {0}
-
 -- the form of answers that the command line asks for
 abbrev pub study_form_of : StudyForm → StudiesForm
 study_form_of forms.Answers = studies.Answers
 study_form_of forms.Explained = studies.Explained
 study_form_of forms.Objects = studies.Objects
+
+-- how the command line asks for them
+abbrev pub manner_of : StudyManner → StudiesManner
+manner_of manner = record { form = study_form_of manner.form; is_numbered = manner.is_numbered }
+
+-- The questions of these lines were answered: those of words, of as many texts as there are files, or of standard input.
+abbrev pub AnswersQuestions : {W : Type 0} → OfSink W → StudiesManner → W → W → Lines → Bool → Type 0
+AnswersQuestions sink manner old new (sources.Each words) is_refused = AnswersStudies sink manner old new (each_line (texts words.now)) is_refused
+AnswersQuestions sink manner old new (sources.One words) is_refused = AnswersStudies sink manner old new (one_line (texts words.now)) is_refused
+AnswersQuestions sink manner old new (sources.Files files) is_refused =
+    (given : List (List ℕ)) × (length given ≡ length files.now) × AnswersAllStudies sink manner old given new is_refused
+AnswersQuestions sink manner old new other is_refused = (text : List ℕ) × AnswersStudies sink manner old new text is_refused
+
+-- Of questions that are words it is told whether one is refused; what standard input and files hold isn't known.
+abbrev pub TellsStudied : Lines → Bool → Type 0
+TellsStudied (sources.Each words) is_refused = is_refused ≡ has_refused_question (each_line (texts words.now))
+TellsStudied (sources.One words) is_refused = is_refused ≡ has_refused_question (one_line (texts words.now))
+TellsStudied other is_refused = Unit {0}

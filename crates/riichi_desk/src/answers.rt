@@ -156,11 +156,10 @@ fn answer_request<'a, R: Input + Print + Eprint + Files + Clock + Threads + Sync
         Request::Lines { lines, manner, .. } => {
             answer_lines(rt, notes, progress, terminals, *lines, *manner)
         }
-        Request::Study {
-            lines,
-            form,
-            is_numbered,
-        } => answer_studies(rt, notes, progress, *lines, *form, *is_numbered),
+        Request::Study { lines, manner } => {
+            let mut writer = ToWriter::new(notes.output(rt));
+            answer_studies(rt, notes, progress, *lines, *manner, &mut writer)
+        }
         Request::HelpCodes => print_codes(rt, notes),
         Request::HelpRules => print_rules(rt, notes),
         Request::HelpYaku => print_yaku(rt, notes),
@@ -180,17 +179,14 @@ fn answer_request<'a, R: Input + Print + Eprint + Files + Clock + Threads + Sync
             rules,
             is_numbered,
             ..
-        } => score_files(
-            rt,
-            notes,
-            progress,
-            *files,
-            Scoring {
+        } => {
+            let scoring = Scoring {
                 workers: *workers,
                 rules: *rules,
                 is_numbered: *is_numbered,
-            },
-        ),
+            };
+            score_files(rt, notes, progress, *files, scoring)
+        }
     }
 }
 

@@ -4,8 +4,13 @@ ghost use Rattle.riichi_desk.specs.Failures.{IsUnopened, is_input};
 
 use crate::failure::Failure;
 use crate::noted::Notes;
+use crate::progress::Progress;
+use desk_lines::DeskFault;
 use desk_score::ScoreFault;
+use std::alloc::Global;
+use std::io::{Eprint, Input, Read};
 use std::rt::Files;
+use std::time::Clock;
 use std::{fs, io};
 
 /// Whether a name is that of standard input.
@@ -31,6 +36,39 @@ pub fn open_file<'a, R: Files>(
                 notes.unopened(file, &error);
                 Failure::CannotOpen(file)
             }
+        }),
+    }
+}
+
+/// The text of a file, or of standard input.
+pub fn text_of<'a, R: Input + Eprint + Files + Clock + AllocGlobal>(
+    rt: &R,
+    notes: &Notes<'a>,
+    progress: &Progress<'_, R>,
+    file: &'a str,
+) -> Result<Vec<u8>, Failure<'a>> {
+    if is_input(file) {
+        read_whole(
+            rt.alloc(),
+            notes.text(progress, "standard input", rt.reader()),
+        )
+    } else {
+        read_whole(
+            rt.alloc(),
+            notes.text(progress, file, open_file(rt, notes, file)?),
+        )
+    }
+}
+
+/// All that a stream gives.
+fn read_whole<'a, T: Read + Drop>(alloc: Global, stream: T) -> Result<Vec<u8>, Failure<'a>> {
+    let mut stream = stream;
+    let mut text = Vec::new(alloc);
+    match stream.read_to_end(&mut text) {
+        Ok(_) => Ok(text),
+        Err(error) => Err(match error.kind() {
+            io::ErrorKind::OutOfMemory => Failure::Fault(ScoreFault::Memory),
+            _ => Failure::Explained(DeskFault::Read),
         }),
     }
 }

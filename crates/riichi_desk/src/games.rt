@@ -120,7 +120,9 @@ fn answer_hinted<'a, S: Source, W: Sink>(
 }
 
 /// Whether it is said below a refused line what is wrong: with reasons, and where the answers alone are shown on a terminal.
-pub fn is_hinted(manner: GameManner, terminals: Terminals) -> bool {
+pub fn is_hinted(manner: GameManner, terminals: Terminals) -> bool
+    ensures { result ≡ spec.has_hints manner.form terminals.has_output }
+{
     matches!(manner.form, GameForm::Explained)
         || matches!(manner.form, GameForm::Answers) && terminals.has_output
 }

@@ -3,12 +3,12 @@ ghost use Rattle.std.specs.Prelude.{◌≡◌};
 ghost use Rattle.riichi_desk.specs.Standing as spec;
 
 use crate::failure::Failure;
-use crate::files::{is_input, open_file};
+use crate::files::text_of;
 use crate::noted::Notes;
 use crate::progress::Progress;
 use desk_cli::{StandingsForm, StandingsRequest, TieWord};
 use desk_io::ToWriter;
-use desk_lines::{DeskFault, write_all};
+use desk_lines::write_all;
 use desk_score::ScoreFault;
 use desk_standings::{
     EndedGame, Hall, Standing, StandingsFault, TieBreak, Tournament, Trouble, Why, judge_texts,
@@ -18,7 +18,7 @@ use riichi_standings_text::{
     are_alike, standings_json, standings_sheet, standings_table, standings_text,
 };
 use std::alloc::{AllocError, Global};
-use std::io::{Eprint, ErrorKind, Input, Print, Read};
+use std::io::{Eprint, Input, Print};
 use std::rt::Files;
 use std::thread::Threads;
 use std::time::Clock;
@@ -132,39 +132,6 @@ fn take_judged<'a>(
         Why::Memory => Failure::Fault(ScoreFault::Memory),
         _ => Failure::NoTournament { file, trouble },
     })
-}
-
-/// The text of a file, or of standard input.
-fn text_of<'a, R: Input + Eprint + Files + Clock + AllocGlobal>(
-    rt: &R,
-    notes: &Notes<'a>,
-    progress: &Progress<'_, R>,
-    file: &'a str,
-) -> Result<Vec<u8>, Failure<'a>> {
-    if is_input(file) {
-        read_whole(
-            rt.alloc(),
-            notes.text(progress, "standard input", rt.reader()),
-        )
-    } else {
-        read_whole(
-            rt.alloc(),
-            notes.text(progress, file, open_file(rt, notes, file)?),
-        )
-    }
-}
-
-/// All that a stream gives.
-fn read_whole<'a, T: Read + Drop>(alloc: Global, stream: T) -> Result<Vec<u8>, Failure<'a>> {
-    let mut stream = stream;
-    let mut text = Vec::new(alloc);
-    match stream.read_to_end(&mut text) {
-        Ok(_) => Ok(text),
-        Err(error) => Err(match error.kind() {
-            ErrorKind::OutOfMemory => Failure::Fault(ScoreFault::Memory),
-            _ => Failure::Explained(DeskFault::Read),
-        }),
-    }
 }
 
 /// Tells the names that may be one player's, each with those before it.

@@ -1,4 +1,4 @@
-use Rattle.std.proofs.Common.{◌++◌, ◌∙◌, List, ℕ, ap, rules, arith}
+use Rattle.std.proofs.Common.{◌++◌, ◌∙◌, List, ℕ, ap, arith}
 use Rattle.std.specs.Prelude.{codes}
 use Rattle.desk_json.specs.Parts.{code_json}
 use Rattle.desk_study.proofs.FaultLemmas.{has_brace, without_brace}

@@ -1,7 +1,7 @@
 use Rattle.std.proofs.Common.{◌≡◌, ◌∙◌, ◌+◌, ◌++◌, ◌∷◌, List, ℕ, Bool, ◌||◌, [], length, length-append, refl, ap}
 use Rattle.desk_io.specs.declared.sink.Sink.{Ghosts as OfSink}
 use Rattle.desk_study.specs.declared.form.StudiesManner.{StudiesManner}
-use Rattle.riichi_desk.specs.Studies.{AnswersAllStudies, AnswersStudies, none, one_more}
+use Rattle.riichi_desk.specs.Studies.{AnswersAllStudies, AnswersStudies, manner_of, none, one_more}
 use Rattle.riichi_desk.proofs.studies.answer_files.Goals as goal
 
 -- one more text is answered
@@ -21,4 +21,4 @@ loop-file-init g c = ([], refl, none)
 pub loop-file-preserved : goal.loop-file-preserved
 loop-file-preserved g c =
     let l = c.loop-file in
-    next g.W.Sink c.args.manner c.args.writer.now l.writer c.answer_file.new.writer l.file-index l.is_refused c.in_ok-is_refused.field-0 l.invariant c.in_ok-is_refused.ensures
+    next g.W.Sink (manner_of c.args.manner) c.args.writer.now l.writer c.answer_file.new.writer l.file-index l.is_refused c.in_ok-is_refused.field-0 l.invariant c.in_ok-is_refused.ensures
