@@ -5,7 +5,8 @@
 //! `riichi_study` reads of it: of a shape what stands beyond its next step, or which calls of a thrown tile bring a hand nearer. The
 //! [`StudiesManner`] says in which [`StudiesForm`]: as a line, as a line with lines in words below it, or as an object of JSON. Each
 //! is put in pieces, since an answer may be longer than the room of one text. [`Questions`] is the `desk_lines::Teller` of such a
-//! text. No call takes memory. docs/NOTATION.md has the lines and the answers.
+//! text. It takes no memory. [`study_text_by`] answers a text that is at hand by several threads, and takes memory for all answers.
+//! docs/NOTATION.md has the lines and the answers.
 //!
 //! ```text
 //! let mut reader = FromReader::new(rt.reader());
