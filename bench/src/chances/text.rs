@@ -15,29 +15,37 @@ struct Counting {
     by_definition: bool,
 }
 
+/// What is counted: what is reached, and the most that any of the plays reaches that may throw what brings nearer. By hands alone that
+/// is a bound.
+const ROWS: [(&str, Goal, Plays); 4] = [
+    ("ready", Goal::Ready, Plays::Keeping),
+    ("win", Goal::Win, Plays::Keeping),
+    ("ready at most", Goal::Ready, Plays::Any),
+    ("win at most", Goal::Win, Plays::Any),
+];
+
 impl Counting {
-    /// The draws of thirteen tiles for each number of turns: what is reached, or the most that any of the plays reaches that may throw
-    /// what brings nearer. By hands alone that is a bound.
-    fn row(self, goal: Goal, hand: &Hand, plays: Plays, known: &mut Known) -> Vec<u128> {
+    /// The draws of thirteen tiles for each number of turns, for each row.
+    fn rows(self, hand: &Hand, known: &mut Known) -> Vec<Vec<u128>> {
+        let turns = 0..=self.turns;
         if self.by_definition {
-            let mut game = Game::new(plays, goal, known);
-            return (0..=self.turns).map(|turns| game.draws(hand, turns)).collect();
+            let row = |(_, goal, plays)| {
+                let mut game = Game::new(plays, goal, known);
+                turns.clone().map(|turns| game.draws(hand, turns)).collect()
+            };
+            return ROWS.map(row).into();
         }
         let mut graph = Graph::new();
         let place = graph.place(hand, known);
-        let row = |turns| graph.rows(goal, unseen(hand), turns, plays == Plays::Any)[place][turns];
-        (0..=self.turns).map(row).collect()
+        let row = |(_, goal, plays)| {
+            turns.clone().map(|turns| graph.rows(goal, unseen(hand), turns, plays == Plays::Any)[place][turns]).collect()
+        };
+        ROWS.map(row).into()
     }
 
     fn write(self, out: &mut Vec<u8>, hand: &Hand, known: &mut Known) {
-        let rows = [
-            ("ready", Goal::Ready, Plays::Keeping),
-            ("win", Goal::Win, Plays::Keeping),
-            ("ready at most", Goal::Ready, Plays::Any),
-            ("win at most", Goal::Win, Plays::Any),
-        ];
-        for (name, goal, plays) in rows {
-            write_row(out, name, &self.row(goal, hand, plays, known));
+        for ((name, _, _), row) in ROWS.iter().zip(self.rows(hand, known)) {
+            write_row(out, name, &row);
         }
         let all: Vec<u128> = (0..=self.turns).map(|turns| all_draws(unseen(hand), turns)).collect();
         write_row(out, "all", &all);
