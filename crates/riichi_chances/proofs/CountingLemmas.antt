@@ -1,14 +1,14 @@
 -- The numbers of a hand by the numbers of those that it leads to.
-use Rattle.std.proofs.Common.{◌≡◌, ℕ, zero, suc, ◌+◌, ◌-◌, ◌*◌, ◌<◌, ◌≤◌, Bool, true, false, cond, Contains, max, inl, inr, List, [], ◌∷◌, map, Some, None, length, refl, sym, ap, subst, ◌∙◌, arith}
+use Rattle.std.proofs.Common.{◌≡◌, ℕ, zero, suc, ◌+◌, ◌-◌, ◌*◌, ◌<◌, ◌≤◌, Bool, true, false, cond, Contains, max, inl, inr, List, [], ◌∷◌, ◌++◌, map, take, Some, None, length, refl, sym, ap, subst, ◌∙◌, arith}
 use Rattle.std.proofs.lemmas.Bool.{and_parts, leb-false, lt-ltb, ltb-true}
 use Rattle.std.specs.List.{filter}
 use Rattle.std.specs.Option.{option_map}
-use Rattle.std.specs.Prelude.{nat_le, nat_lt, replicate, slice_get, slice_index}
+use Rattle.std.specs.Prelude.{nat_le, nat_lt, replicate, slice_get, slice_index, slice_index_or}
 use Rattle.riichi_hand.specs.HandParts.{ShapeParts}
 use Rattle.riichi_tiles.specs.Melds.{every_kind}
 use Rattle.riichi_tiles.specs.declared.meld.Meld.{Meld}
 use Rattle.riichi_tiles.proofs.Members.{IsIn, Contains-in, in-filter, in-filter-inv, in-map, in-map-inv, in-range}
-use Rattle.riichi_shape.specs.Accepted.{accepted_of, is_accepted, live_of, with_one}
+use Rattle.riichi_shape.specs.Accepted.{accepted_of, is_accepted, live_of, with_one, without_one}
 use Rattle.riichi_shape.specs.Choosing.{LeavesLeast}
 use Rattle.riichi_shape.specs.Discards.{discard_of, discards_of, in_order, inserted, inserted_by, is_discard, live_with}
 use Rattle.riichi_shape.specs.EveryWinning.{distance_of}
@@ -22,6 +22,7 @@ use Rattle.riichi_deeper.specs.Drawn.{parts_with}
 use Rattle.riichi_chances.specs.Aims.{Aim, HasCounts, lack_of, draws_at}
 use Rattle.riichi_chances.specs.Counted.{accepts, counted_draws, counted_rest, counted_with, accepted_draws, parts_less}
 use Rattle.riichi_chances.specs.Draws.{all_draws, greatest, is_there}
+use Rattle.riichi_chances.specs.Graph.{AreLeft, AreRests, kinds_of}
 use Rattle.riichi_chances.specs.Numbers.{most_draws, unseen_at}
 use Rattle.riichi_chances.proofs.BoundLemmas.{all_few, counted_few, gains_few, times_few}
 use Rattle.riichi_chances.proofs.SpanLemmas.{all_none, one_turn_more}
@@ -81,56 +82,57 @@ gains_bound aim parts live few some left =
 
 -- ---- the discards of a list
 
--- the greatest value of the discards from a place on
-unfoldable pub most_from : (ℕ → ℕ) → List Discard → ℕ → ℕ
-most_from value [] place = 0
-most_from value (discard ∷ rest) zero = max (value discard.kind) (most_from value rest zero)
-most_from value (discard ∷ rest) (suc place) = most_from value rest place
+greatest_first : (value : ℕ → ℕ) (kind : ℕ) (kinds : List ℕ) → greatest value (kind ∷ kinds) ≡ max (value kind) (greatest value kinds)
+unfolding greatest
+greatest_first value kind kinds = refl
 
-pub most_at : (value : ℕ → ℕ) (discards : List Discard) (place : ℕ) (short : ShortDiscard) → Some short ≡ option_map short_of (slice_get discards place) → most_from value discards place ≡ max (value short.kind) (most_from value discards (place + 1))
-unfolding most_from
-most_at value [] place short e = absurd (cc)
-most_at value (discard ∷ rest) zero short e = let same : short ≡ short_of discard = cc in ap (λ (s : ShortDiscard). max (value s.kind) (most_from value rest zero)) (sym same)
-most_at value (discard ∷ rest) (suc place) short e = most_at value rest place short e ∙ ap (λ n. max (value short.kind) (most_from value (discard ∷ rest) n)) (one place)
-  where
-    one : (n : ℕ) → suc (n + 1) ≡ suc n + 1
-    one n = omega arith
-
-pub most_past : (value : ℕ → ℕ) (discards : List Discard) (place : ℕ) → length discards ≤ place → most_from value discards place ≡ 0
-unfolding most_from
-most_past value [] place past = refl
-most_past value (discard ∷ rest) zero past = absurd (omega arith)
-most_past value (discard ∷ rest) (suc place) past = most_past value rest place (omega arith)
-
-abbrev most_of : (ℕ → ℕ) → List Discard → ℕ
-most_of value discards = most_from value discards 0
-
-most_first : (value : ℕ → ℕ) (discard : Discard) (rest : List Discard) → most_of value (discard ∷ rest) ≡ max (value discard.kind) (most_of value rest)
-unfolding most_from
-most_first value discard rest = refl
-
-most_put : (value : ℕ → ℕ) (discard : Discard) (rest : List Discard) → most_of value (inserted discard rest) ≡ max (value discard.kind) (most_of value rest)
+greatest_put : (value : ℕ → ℕ) (discard : Discard) (rest : List Discard) → greatest value (kinds_of (inserted discard rest)) ≡ max (value discard.kind) (greatest value (kinds_of rest))
 unfolding inserted_by
-most_put value discard [] = most_first value discard []
-most_put value discard (next ∷ rest) = by_test (nat_le (live_with next) (live_with discard)) (most_put value discard rest)
+greatest_put value discard [] = greatest_first value discard.kind []
+greatest_put value discard (next ∷ rest) = by_test (nat_le (live_with next) (live_with discard)) (greatest_put value discard rest)
   where
     swap : (a b c : ℕ) → max a (max b c) ≡ max b (max a c)
     swap a b c = omega arith
 
-    by_test : (t : Bool) → most_of value (inserted discard rest) ≡ max (value discard.kind) (most_of value rest) → most_of value (cond t (discard ∷ next ∷ rest) (next ∷ inserted discard rest)) ≡ max (value discard.kind) (most_of value (next ∷ rest))
-    by_test true later = most_first value discard (next ∷ rest)
+    by_test : (t : Bool) → greatest value (kinds_of (inserted discard rest)) ≡ max (value discard.kind) (greatest value (kinds_of rest)) → greatest value (kinds_of (cond t (discard ∷ next ∷ rest) (next ∷ inserted discard rest))) ≡ max (value discard.kind) (greatest value (kinds_of (next ∷ rest)))
+    by_test true later = greatest_first value discard.kind (kinds_of (next ∷ rest))
     by_test false later =
-        most_first value next (inserted discard rest) ∙ ap (max (value next.kind)) later ∙ swap (value next.kind) (value discard.kind) (most_of value rest) ∙ ap (max (value discard.kind)) (sym (most_first value next rest))
+        greatest_first value next.kind (kinds_of (inserted discard rest)) ∙ ap (max (value next.kind)) later ∙ swap (value next.kind) (value discard.kind) (greatest value (kinds_of rest)) ∙ ap (max (value discard.kind)) (sym (greatest_first value next.kind (kinds_of rest)))
 
-most_ordered : (value : ℕ → ℕ) (hand : List ℕ) (melds : List Meld) (seen kinds : List ℕ) → most_of value (in_order (map (discard_of hand melds seen) kinds)) ≡ greatest value kinds
-unfolding in_order greatest most_from
-most_ordered value hand melds seen [] = refl
-most_ordered value hand melds seen (kind ∷ kinds) =
-    most_put value (discard_of hand melds seen kind) (in_order (map (discard_of hand melds seen) kinds)) ∙ ap (max (value kind)) (most_ordered value hand melds seen kinds)
+greatest_ordered : (value : ℕ → ℕ) (hand : List ℕ) (melds : List Meld) (seen kinds : List ℕ) → greatest value (kinds_of (in_order (map (discard_of hand melds seen) kinds))) ≡ greatest value kinds
+unfolding in_order
+greatest_ordered value hand melds seen [] = refl
+greatest_ordered value hand melds seen (kind ∷ kinds) =
+    greatest_put value (discard_of hand melds seen kind) (in_order (map (discard_of hand melds seen) kinds)) ∙ ap (max (value kind)) (greatest_ordered value hand melds seen kinds) ∙ sym (greatest_first value kind kinds)
 
-pub most_all : (value : ShapeParts → ℕ) (drawn : ShapeParts) → most_from (λ kind. value (parts_less drawn kind)) (discards_of drawn.tiles drawn.melds drawn.seen) 0 ≡ counted_rest value drawn
+greatest_discards : (value : ShapeParts → ℕ) (drawn : ShapeParts) → greatest (λ kind. value (parts_less drawn kind)) (kinds_of (discards_of drawn.tiles drawn.melds drawn.seen)) ≡ counted_rest value drawn
 unfolding discards_of counted_rest
-most_all value drawn = most_ordered (λ kind. value (parts_less drawn kind)) drawn.tiles drawn.melds drawn.seen (filter (is_discard drawn.tiles drawn.melds) every_kind)
+greatest_discards value drawn = greatest_ordered (λ kind. value (parts_less drawn kind)) drawn.tiles drawn.melds drawn.seen (filter (is_discard drawn.tiles drawn.melds) every_kind)
+
+greatest_left : (value : List ℕ → ℕ) (at without : ℕ → List ℕ) (places kinds : List ℕ) → map at places ≡ map without kinds → greatest (λ place. value (at place)) places ≡ greatest (λ kind. value (without kind)) kinds
+unfolding greatest
+greatest_left value at without [] [] e = refl
+greatest_left value at without [] (kind ∷ kinds) e = absurd (cc)
+greatest_left value at without (place ∷ places) [] e = absurd (cc)
+greatest_left value at without (place ∷ places) (kind ∷ kinds) e =
+    let here : at place ≡ without kind = cc in
+    let others : map at places ≡ map without kinds = cc in
+    ap (λ n. max n (greatest (λ p. value (at p)) places)) (ap value here) ∙ ap (max (value (without kind))) (greatest_left value at without places kinds others)
+
+-- what stands at the places has the greatest value of a best discard
+pub left_rests : (hands : List (List ℕ)) (places : List ℕ) (drawn : ShapeParts) (discards : List Discard) → discards ≡ discards_of drawn.tiles drawn.melds drawn.seen → AreLeft hands places drawn.tiles (kinds_of discards) → AreRests hands places drawn
+left_rests hands places drawn discards is left value =
+    greatest_left (λ tiles. value (record { tiles = tiles; melds = drawn.melds; seen = drawn.seen })) (λ place. slice_index_or hands place []) (without_one drawn.tiles) places (kinds_of discards) left
+    ∙ ap (λ (ds : List Discard). greatest (λ kind. value (parts_less drawn kind)) (kinds_of ds)) is ∙ greatest_discards value drawn
+
+-- the kinds of one discard more
+pub kinds_more : (discards : List Discard) (at : ℕ) (short : ShortDiscard) → Some short ≡ option_map short_of (slice_get discards at) → kinds_of (take (at + 1) discards) ≡ kinds_of (take at discards) ++ short.kind ∷ []
+kinds_more [] at short e = absurd (cc)
+kinds_more (discard ∷ rest) zero short e = let same : short ≡ short_of discard = cc in ap (λ (s : ShortDiscard). s.kind ∷ []) (sym same)
+kinds_more (discard ∷ rest) (suc at) short e = ap (λ n. kinds_of (take n (discard ∷ rest))) (one at) ∙ ap (λ (ks : List ℕ). discard.kind ∷ ks) (kinds_more rest at short e)
+  where
+    one : (n : ℕ) → suc n + 1 ≡ suc (n + 1)
+    one n = omega arith
 
 -- a discard of the list is one of the best
 found_at : (discards : List Discard) (place : ℕ) (short : ShortDiscard) → Some short ≡ option_map short_of (slice_get discards place) → (discard : Discard) × IsIn discard discards × (discard.kind ≡ short.kind)
@@ -141,6 +143,16 @@ found_at (discard ∷ rest) (suc place) short e = let found = found_at rest plac
 pub best_at : (drawn : ShapeParts) (discards : List Discard) (place : ℕ) (short : ShortDiscard) → discards ≡ discards_of drawn.tiles drawn.melds drawn.seen → Some short ≡ option_map short_of (slice_get discards place) → LeavesLeast drawn.tiles drawn.melds short.kind
 best_at drawn discards place short is e =
     let found = found_at discards place short e in
+    subst (LeavesLeast drawn.tiles drawn.melds) found.2 ((discards_are drawn.tiles drawn.melds drawn.seen found.0).0 (subst (λ (ds : List Discard). Contains ds found.0) is (Contains-in found.0 discards found.1))).0
+
+listed : (discards : List Discard) (place : ℕ) → place < length discards → (discard : Discard) × IsIn discard discards × (discard.kind ≡ slice_index (kinds_of discards) place)
+listed [] place low = absurd (omega (arith, low))
+listed (discard ∷ rest) zero low = (discard, inl refl, refl)
+listed (discard ∷ rest) (suc place) low = let found = listed rest place (omega (arith, low)) in (found.0, inr found.1, found.2)
+
+pub best_listed : (drawn : ShapeParts) (discards : List Discard) (place : ℕ) → discards ≡ discards_of drawn.tiles drawn.melds drawn.seen → place < length discards → LeavesLeast drawn.tiles drawn.melds (slice_index (kinds_of discards) place)
+best_listed drawn discards place is low =
+    let found = listed discards place low in
     subst (LeavesLeast drawn.tiles drawn.melds) found.2 ((discards_are drawn.tiles drawn.melds drawn.seen found.0).0 (subst (λ (ds : List Discard). Contains ds found.0) is (Contains-in found.0 discards found.1))).0
 
 pub never_past : (discards : List Discard) (place : ℕ) → place < length discards → None ≡ option_map short_of (slice_get discards place) → ⊥

@@ -19,10 +19,10 @@ use Rattle.riichi_shape.proofs.ReadyLemmas.{ready_is}
 use Rattle.riichi_shape.proofs.RemovalLemmas.{chosen_is}
 use Rattle.riichi_deeper.proofs.DrawnLemmas.{size_with}
 use Rattle.riichi_deeper.specs.Drawn.{parts_with}
-use Rattle.riichi_chances.specs.Aims.{Aim, HasRows, draws_at, lack_of, row_of}
+use Rattle.riichi_chances.specs.Aims.{Aim, HasRows, draws_at, lack_of, numbers_for}
 use Rattle.riichi_chances.specs.Counted.{accepted_draws, accepts, counted_by, counted_rest, counted_with, parts_less}
 use Rattle.riichi_chances.specs.Draws.{all_draws, greatest, is_there}
-use Rattle.riichi_chances.specs.Graph.{AreRows, IsGraph, IsNode, draw_value, draws_value, hand_at, no_rows, number_at, rest_by, rests_value}
+use Rattle.riichi_chances.specs.Graph.{AreRows, IsGraph, IsNode, draw_value, draws_value, placed_hand, no_rows, placed_number, rest_by, rests_value}
 use Rattle.riichi_chances.specs.Laws.{IsFourteen, IsThirteen}
 use Rattle.riichi_chances.specs.Numbers.{AreAdded, AreAllDraws, AreGreater, BeginWith, FitTogether, Follow, FollowReady, most_draws, unseen_at}
 use Rattle.riichi_chances.specs.declared.goal.Goal.{Goal}
@@ -59,29 +59,29 @@ module _ (span : Span) (live : ℕ) (turns : span.turns ≤ 18) (unseen : span.u
 -- ---- the greatest of some places
 
 pub record BestSoFar (earlier : List Rows) (places : List ℕ) (turns : ℕ) (best : Rows) (done : ℕ) : Type 0 where
-  pub at : (goal : Goal) (left : ℕ) → left < turns → max (slice_index (row_of goal best) left) (greatest (number_at goal earlier left) (drop done places)) ≡ greatest (number_at goal earlier left) places
+  pub at : (goal : Goal) (left : ℕ) → left < turns → max (slice_index (numbers_for goal best) left) (greatest (placed_number goal earlier left) (drop done places)) ≡ greatest (placed_number goal earlier left) places
 
 module _ (earlier : List Rows) (places : List ℕ) (turns : ℕ) where
-  pub best_init : (best : Rows) → ((goal : Goal) (left : ℕ) → slice_index (row_of goal best) left ≡ 0) → BestSoFar earlier places turns best 0
-  best_init best none = record { at = λ goal left small. none_max (slice_index (row_of goal best) left) (greatest (number_at goal earlier left) places) (none goal left) }
+  pub best_init : (best : Rows) → ((goal : Goal) (left : ℕ) → slice_index (numbers_for goal best) left ≡ 0) → BestSoFar earlier places turns best 0
+  best_init best none = record { at = λ goal left small. none_max (slice_index (numbers_for goal best) left) (greatest (placed_number goal earlier left) places) (none goal left) }
     where
       none_max : (a b : ℕ) → a ≡ 0 → max a b ≡ b
       none_max a b e = omega arith
 
-  pub best_step : (best after other : Rows) (at place : ℕ) → at < length places → place ≡ get_or places at place → place < length earlier → ((goal : Goal) → AreGreater turns (row_of goal (slice_index_or earlier place other)) (row_of goal best) (row_of goal after)) → BestSoFar earlier places turns best at → BestSoFar earlier places turns after (at + 1)
+  pub best_step : (best after other : Rows) (at place : ℕ) → at < length places → place ≡ get_or places at place → place < length earlier → ((goal : Goal) → AreGreater turns (numbers_for goal (slice_index_or earlier place other)) (numbers_for goal best) (numbers_for goal after)) → BestSoFar earlier places turns best at → BestSoFar earlier places turns after (at + 1)
   best_step best after other at place low place_is inside greater so_far = record {
     at = λ goal left small.
-        up (slice_index (row_of goal after) left) (slice_index (row_of goal best) left) (slice_index (row_of goal (slice_index_or earlier place other)) left) (number_at goal earlier left place) (greatest (number_at goal earlier left) (drop at places)) (greatest (number_at goal earlier left) (drop (at + 1) places)) (greater goal left small)
-        (ap (λ (rows : Rows). slice_index (row_of goal rows) left) (get_or_default earlier place other no_rows inside)) (greatest_drop (number_at goal earlier left) places at place low place_is)
+        up (slice_index (numbers_for goal after) left) (slice_index (numbers_for goal best) left) (slice_index (numbers_for goal (slice_index_or earlier place other)) left) (placed_number goal earlier left place) (greatest (placed_number goal earlier left) (drop at places)) (greatest (placed_number goal earlier left) (drop (at + 1) places)) (greater goal left small)
+        (ap (λ (rows : Rows). slice_index (numbers_for goal rows) left) (get_or_default earlier place other no_rows inside)) (greatest_drop (placed_number goal earlier left) places at place low place_is)
         ∙ so_far.at goal left small;
   }
     where
       up : (a b o n m r : ℕ) → a ≡ max b o → o ≡ n → m ≡ max n r → max a r ≡ max b m
       up a b o n m r e f g = omega arith
 
-  pub best_end : (best : Rows) (at : ℕ) → length places ≤ at → BestSoFar earlier places turns best at → (goal : Goal) (left : ℕ) → left < turns → slice_index (row_of goal best) left ≡ greatest (number_at goal earlier left) places
+  pub best_end : (best : Rows) (at : ℕ) → length places ≤ at → BestSoFar earlier places turns best at → (goal : Goal) (left : ℕ) → left < turns → slice_index (numbers_for goal best) left ≡ greatest (placed_number goal earlier left) places
   best_end best at past so_far goal left small =
-      last (slice_index (row_of goal best) left) (greatest (number_at goal earlier left) (drop at places)) (ap (greatest (number_at goal earlier left)) (drop_all at places past) ∙ greatest_none (number_at goal earlier left)) ∙ so_far.at goal left small
+      last (slice_index (numbers_for goal best) left) (greatest (placed_number goal earlier left) (drop at places)) (ap (greatest (placed_number goal earlier left)) (drop_all at places past) ∙ greatest_none (placed_number goal earlier left)) ∙ so_far.at goal left small
     where
       last : (a r : ℕ) → r ≡ 0 → a ≡ max a r
       last a r e = omega arith
@@ -89,26 +89,26 @@ module _ (earlier : List Rows) (places : List ℕ) (turns : ℕ) where
 -- ---- the sums over some draws
 
 pub record SumsSoFar (earlier : List Rows) (draws : List Draw) (turns : ℕ) (sums : Rows) (done : ℕ) : Type 0 where
-  pub at : (goal : Goal) (left : ℕ) → left < turns → slice_index (row_of goal sums) left + draws_value (number_at goal earlier left) (drop done draws) ≡ draws_value (number_at goal earlier left) draws
+  pub at : (goal : Goal) (left : ℕ) → left < turns → slice_index (numbers_for goal sums) left + draws_value (placed_number goal earlier left) (drop done draws) ≡ draws_value (placed_number goal earlier left) draws
 
 module _ (earlier : List Rows) (draws : List Draw) (turns : ℕ) where
-  pub sums_init : (sums : Rows) → ((goal : Goal) (left : ℕ) → slice_index (row_of goal sums) left ≡ 0) → SumsSoFar earlier draws turns sums 0
+  pub sums_init : (sums : Rows) → ((goal : Goal) (left : ℕ) → slice_index (numbers_for goal sums) left ≡ 0) → SumsSoFar earlier draws turns sums 0
   sums_init sums none = record { at = λ goal left low. omega (arith, none goal left) }
 
-  module _ (sums best : Rows) (at : ℕ) (low : at < length draws) (draw : Draw) (draw_is : draw ≡ get_or draws at draw) (best_is : (goal : Goal) (left : ℕ) → left < turns → slice_index (row_of goal best) left ≡ greatest (number_at goal earlier left) draw.rests.items) (so_far : SumsSoFar earlier draws turns sums at) where
-    own : (goal : Goal) (left : ℕ) → left < turns → draws_value (number_at goal earlier left) (drop at draws) ≡ draw.live * slice_index (row_of goal best) left + draws_value (number_at goal earlier left) (drop (at + 1) draws)
+  module _ (sums best : Rows) (at : ℕ) (low : at < length draws) (draw : Draw) (draw_is : draw ≡ get_or draws at draw) (best_is : (goal : Goal) (left : ℕ) → left < turns → slice_index (numbers_for goal best) left ≡ greatest (placed_number goal earlier left) draw.rests.items) (so_far : SumsSoFar earlier draws turns sums at) where
+    own : (goal : Goal) (left : ℕ) → left < turns → draws_value (placed_number goal earlier left) (drop at draws) ≡ draw.live * slice_index (numbers_for goal best) left + draws_value (placed_number goal earlier left) (drop (at + 1) draws)
     own goal left small =
-        sum_by-drop_more (draw_value (number_at goal earlier left)) draws at draw low ∙ ap (λ (d : Draw). draw_value (number_at goal earlier left) d + draws_value (number_at goal earlier left) (drop (at + 1) draws)) (sym draw_is)
-        ∙ ap (λ n. draw.live * n + draws_value (number_at goal earlier left) (drop (at + 1) draws)) (sym (best_is goal left small))
+        sum_by-drop_more (draw_value (placed_number goal earlier left)) draws at draw low ∙ ap (λ (d : Draw). draw_value (placed_number goal earlier left) d + draws_value (placed_number goal earlier left) (drop (at + 1) draws)) (sym draw_is)
+        ∙ ap (λ n. draw.live * n + draws_value (placed_number goal earlier left) (drop (at + 1) draws)) (sym (best_is goal left small))
 
-    pub sums_fit : ((goal : Goal) (left : ℕ) → left < turns → draws_value (number_at goal earlier left) draws < 2 ^ 128) → (goal : Goal) → FitTogether turns draw.live (row_of goal best) (row_of goal sums)
+    pub sums_fit : ((goal : Goal) (left : ℕ) → left < turns → draws_value (placed_number goal earlier left) draws < 2 ^ 128) → (goal : Goal) → FitTogether turns draw.live (numbers_for goal best) (numbers_for goal sums)
     sums_fit fits goal left small = omega (arith, own goal left small, so_far.at goal left small, fits goal left small)
 
-    pub sums_step : (after : Rows) → ((goal : Goal) → AreAdded turns draw.live (row_of goal best) (row_of goal sums) (row_of goal after)) → SumsSoFar earlier draws turns after (at + 1)
+    pub sums_step : (after : Rows) → ((goal : Goal) → AreAdded turns draw.live (numbers_for goal best) (numbers_for goal sums) (numbers_for goal after)) → SumsSoFar earlier draws turns after (at + 1)
     sums_step after added = record { at = λ goal left small. omega (arith, added goal left small, own goal left small, so_far.at goal left small) }
 
-  pub sums_end : (sums : Rows) (at : ℕ) → length draws ≤ at → SumsSoFar earlier draws turns sums at → (goal : Goal) (left : ℕ) → left < turns → slice_index (row_of goal sums) left ≡ draws_value (number_at goal earlier left) draws
-  sums_end sums at past so_far goal left small = omega (arith, so_far.at goal left small, ap (draws_value (number_at goal earlier left)) (drop_all at draws past), nothing (number_at goal earlier left))
+  pub sums_end : (sums : Rows) (at : ℕ) → length draws ≤ at → SumsSoFar earlier draws turns sums at → (goal : Goal) (left : ℕ) → left < turns → slice_index (numbers_for goal sums) left ≡ draws_value (placed_number goal earlier left) draws
+  sums_end sums at past so_far goal left small = omega (arith, so_far.at goal left small, ap (draws_value (placed_number goal earlier left)) (drop_all at draws past), nothing (placed_number goal earlier left))
     where
       nothing : (f : ℕ → ℕ) → draws_value f [] ≡ 0
       nothing f = refl
@@ -235,9 +235,9 @@ ready_has span parts live rows is ready live_is all none follows Win left low =
 
 -- ---- the rows of a place
 
-module _ (span : Span) (turns : span.turns ≤ 18) (unseen : span.unseen ≤ 136) (root : ShapeParts) (hands : List (List ℕ)) (place : ℕ) (node : Node) (is : IsNode hands place (hand_at root hands place) node) (earlier : List Rows) (all_before : length earlier ≡ place) (are : AreRows span root hands earlier) (not_ready : node.is_ready ≡ false) where
+module _ (span : Span) (turns : span.turns ≤ 18) (unseen : span.unseen ≤ 136) (root : ShapeParts) (hands : List (List ℕ)) (place : ℕ) (node : Node) (is : IsNode hands place (placed_hand root hands place) node) (earlier : List Rows) (all_before : length earlier ≡ place) (are : AreRows span root hands earlier) (not_ready : node.is_ready ≡ false) where
   abbrev parts : ShapeParts
-  parts = hand_at root hands place
+  parts = placed_hand root hands place
 
   abbrev aim_of : Goal → Aim
   aim_of goal = record { goal = goal; span = span }
@@ -245,41 +245,41 @@ module _ (span : Span) (turns : span.turns ≤ 18) (unseen : span.unseen ≤ 136
   far_away : 1 < distance_of parts.tiles parts.melds
   far_away = omega (arith, leb-false (distance_of parts.tiles parts.melds) 1 (sym is.ready ∙ not_ready))
 
-  pub gains_told : (goal : Goal) (left : ℕ) → left < span.turns → draws_value (number_at goal earlier left) node.draws.items ≡ gains_at (aim_of goal) parts left
+  pub gains_told : (goal : Goal) (left : ℕ) → left < span.turns → draws_value (placed_number goal earlier left) node.draws.items ≡ gains_at (aim_of goal) parts left
   gains_told goal left low =
-      draws_same (number_at goal earlier left) (λ p. draws_at (aim_of goal) left (hand_at parts hands p)) place node.draws.items is.before (λ p small. are p (omega (arith, small, all_before)) goal left (omega (arith, low)))
+      draws_same (placed_number goal earlier left) (λ p. draws_at (aim_of goal) left (placed_hand parts hands p)) place node.draws.items is.before (λ p small. are p (omega (arith, small, all_before)) goal left (omega (arith, low)))
       ∙ is.leads not_ready (draws_at (aim_of goal) left) ∙ rests_gains (aim_of goal) parts left is.whole far_away
 
-  pub gains_few : (goal : Goal) (left : ℕ) → left < span.turns → draws_value (number_at goal earlier left) node.draws.items ≤ node.live * most_draws left
+  pub gains_few : (goal : Goal) (left : ℕ) → left < span.turns → draws_value (placed_number goal earlier left) node.draws.items ≤ node.live * most_draws left
   gains_few goal left low = omega (arith, gains_told goal left low, gains_bound (aim_of goal) parts node.live unseen (omega (arith, is.live)) left)
 
-  pub gains_fit : node.live ≤ 136 → (goal : Goal) (left : ℕ) → left < span.turns → draws_value (number_at goal earlier left) node.draws.items < 2 ^ 128
-  gains_fit few goal left low = next_fits left span.turns (draws_value (number_at goal earlier left) node.draws.items) low turns (omega (arith, gains_few goal left low, times_few node.live 136 (most_draws left) (most_draws left) few (omega arith)))
+  pub gains_fit : node.live ≤ 136 → (goal : Goal) (left : ℕ) → left < span.turns → draws_value (placed_number goal earlier left) node.draws.items < 2 ^ 128
+  gains_fit few goal left low = next_fits left span.turns (draws_value (placed_number goal earlier left) node.draws.items) low turns (omega (arith, gains_few goal left low, times_few node.live 136 (most_draws left) (most_draws left) few (omega arith)))
 
-  pub followed_row : (goal : Goal) (begun row : List ℕ) → ((left : ℕ) → left < span.turns → slice_index begun left ≡ draws_value (number_at goal earlier left) node.draws.items) → slice_index row 0 ≡ 0 → Follow span node.live begun row → (left : ℕ) → left ≤ span.turns → slice_index row left ≡ draws_at (aim_of goal) left parts
+  pub followed_row : (goal : Goal) (begun row : List ℕ) → ((left : ℕ) → left < span.turns → slice_index begun left ≡ draws_value (placed_number goal earlier left) node.draws.items) → slice_index row 0 ≡ 0 → Follow span node.live begun row → (left : ℕ) → left ≤ span.turns → slice_index row left ≡ draws_at (aim_of goal) left parts
   followed_row goal begun row begun_is none follows =
       followed (aim_of goal) parts (not_near (distance_of parts.tiles parts.melds) (lack_of goal) far_away (lack_few goal)) node.live is.live (slice_index begun) row (λ l small. begun_is l small ∙ gains_told goal l small) none follows
 
-  pub followed_rows : (begun rows : Rows) → ((goal : Goal) (left : ℕ) → left < span.turns → slice_index (row_of goal begun) left ≡ draws_value (number_at goal earlier left) node.draws.items) → slice_index rows.ready 0 ≡ 0 → slice_index rows.win 0 ≡ 0 → Follow span node.live begun.ready rows.ready → Follow span node.live begun.win rows.win → HasRows span parts rows
+  pub followed_rows : (begun rows : Rows) → ((goal : Goal) (left : ℕ) → left < span.turns → slice_index (numbers_for goal begun) left ≡ draws_value (placed_number goal earlier left) node.draws.items) → slice_index rows.ready 0 ≡ 0 → slice_index rows.win 0 ≡ 0 → Follow span node.live begun.ready rows.ready → Follow span node.live begun.win rows.win → HasRows span parts rows
   followed_rows begun rows begun_is none no_win follows wins Ready = followed_row Ready begun.ready rows.ready (begun_is Ready) none follows
   followed_rows begun rows begun_is none no_win follows wins Win = followed_row Win begun.win rows.win (begun_is Win) no_win wins
 
-pub node_at : (root : ShapeParts) (graph : Graph) (place : ℕ) (node : Node) → IsGraph root graph → place < length graph.nodes.items → node ≡ slice_index_or graph.nodes.items place node → IsNode graph.hands.keys place (hand_at root graph.hands.keys place) node
-node_at root graph place node is inside node_is = subst (λ (it : Node). IsNode graph.hands.keys place (hand_at root graph.hands.keys place) it) (sym node_is) (is.node place node inside)
+pub node_at : (root : ShapeParts) (graph : Graph) (place : ℕ) (node : Node) → IsGraph root graph → place < length graph.nodes.items → node ≡ slice_index_or graph.nodes.items place node → IsNode graph.hands.keys place (placed_hand root graph.hands.keys place) node
+node_at root graph place node is inside node_is = subst (λ (it : Node). IsNode graph.hands.keys place (placed_hand root graph.hands.keys place) it) (sym node_is) (is.node place node inside)
 
 pub live_few : (hands : List (List ℕ)) (place : ℕ) (parts : ShapeParts) (node : Node) → IsNode hands place parts node → node.live ≤ 136
 live_few hands place parts node is = omega (arith, is.live, accepted_few parts)
 
 -- ---- one more place
 
-pub rows_more : (span : Span) (root : ShapeParts) (hands : List (List ℕ)) (rows after : List Rows) (place : ℕ) (row : Rows) → AreRows span root hands rows → length rows ≡ place → HasRows span (hand_at root hands place) row → after ≡ rows ++ row ∷ [] → AreRows span root hands after
+pub rows_more : (span : Span) (root : ShapeParts) (hands : List (List ℕ)) (rows after : List Rows) (place : ℕ) (row : Rows) → AreRows span root hands rows → length rows ≡ place → HasRows span (placed_hand root hands place) row → after ≡ rows ++ row ∷ [] → AreRows span root hands after
 rows_more span root hands rows after place row are long has after_is = subst (AreRows span root hands) (sym after_is) each
   where
     each : AreRows span root hands (rows ++ row ∷ [])
     each p low = ⊎_elim here (λ ne. other (omega (arith, low, ne, long, length-append rows (row ∷ [])))) (cases_eq p place)
       where
-        other : p < length rows → HasRows span (hand_at root hands p) (slice_index_or (rows ++ row ∷ []) p no_rows)
-        other less = subst (HasRows span (hand_at root hands p)) (sym (get_or_append_left rows (row ∷ []) no_rows p less)) (are p less)
+        other : p < length rows → HasRows span (placed_hand root hands p) (slice_index_or (rows ++ row ∷ []) p no_rows)
+        other less = subst (HasRows span (placed_hand root hands p)) (sym (get_or_append_left rows (row ∷ []) no_rows p less)) (are p less)
 
-        here : p ≡ place → HasRows span (hand_at root hands p) (slice_index_or (rows ++ row ∷ []) p no_rows)
-        here e = subst (λ (it : Rows). HasRows span (hand_at root hands p) it) (sym (get_or_push rows row no_rows p (long ∙ sym e))) (subst (λ (q : ℕ). HasRows span (hand_at root hands q) row) (sym e) has)
+        here : p ≡ place → HasRows span (placed_hand root hands p) (slice_index_or (rows ++ row ∷ []) p no_rows)
+        here e = subst (λ (it : Rows). HasRows span (placed_hand root hands p) it) (sym (get_or_push rows row no_rows p (long ∙ sym e))) (subst (λ (q : ℕ). HasRows span (placed_hand root hands q) row) (sym e) has)

@@ -27,10 +27,10 @@ abbrev pub HasCounts : Aim → ShapeParts → List ℕ → Type 0
 HasCounts aim parts numbers = (left : ℕ) → left ≤ aim.span.turns → slice_index numbers left ≡ draws_at aim left parts
 
 -- the numbers for a goal
-abbrev pub row_of : Goal → Rows → List ℕ
-row_of Ready rows = rows.ready
-row_of Win rows = rows.win
+abbrev pub numbers_for : Goal → Rows → List ℕ
+numbers_for Ready rows = rows.ready
+numbers_for Win rows = rows.win
 
 -- those for both
 abbrev pub HasRows : Span → ShapeParts → Rows → Type 0
-HasRows span parts rows = (goal : Goal) → HasCounts (record { goal = goal; span = span }) parts (row_of goal rows)
+HasRows span parts rows = (goal : Goal) → HasCounts (record { goal = goal; span = span }) parts (numbers_for goal rows)

@@ -1,13 +1,15 @@
 -- The chances of a hand for each number of turns.
-use Rattle.std.specs.Prelude.{◌≡◌, ℕ, ◌<◌, ◌≤◌, List, length, slice_index, slice_index_or}
+use Rattle.std.specs.Prelude.{◌≡◌, ℕ, ◌<◌, ◌≤◌, List, length, slice_index, slice_index_or, slice_set}
 use Rattle.riichi_hand.specs.HandParts.{ShapeParts}
 use Rattle.riichi_chances.specs.Counted.{counted_draws}
 use Rattle.riichi_chances.specs.Draws.{all_draws, draws, unseen_of}
+use Rattle.riichi_chances.specs.Graph.{placed_hand}
 use Rattle.riichi_deeper.specs.Drawn.{parts_without}
 use Rattle.riichi_chances.specs.declared.chances.Chances.{Chances}
 use Rattle.riichi_chances.specs.declared.discards.DiscardChances.{DiscardChances}
 use Rattle.riichi_chances.specs.declared.goal.Goal.{Goal}
 use Rattle.riichi_chances.specs.declared.goal.Goal.TheVariants.{Ready, Win}
+use Rattle.riichi_chances.specs.declared.rows.Rows.{Rows}
 
 -- the draws that bring a hand to a goal
 abbrev pub reached_of : Goal → Chances → List ℕ
@@ -31,3 +33,20 @@ pub record AreCounted (parts : ShapeParts) (unseen turns : ℕ) (chances : Chanc
 -- the chances after each of these discards
 abbrev pub AreAfter : ShapeParts → ℕ → List DiscardChances → Type 0
 AreAfter parts turns each = (place : ℕ) (one : DiscardChances) → place < length each → AreChances (parts_without parts (slice_index_or each place one).kind) turns (slice_index_or each place one).chances
+
+-- ---- one number of turns after the other
+
+-- those of one number of turns are told, and the others stay
+pub record IsTold (turns : ℕ) (rows : Rows) (number : ℕ) (before after : Chances) : Type 0 where
+  pub ready : after.ready ≡ slice_set before.ready turns (slice_index rows.ready turns)
+  pub win : after.win ≡ slice_set before.win turns (slice_index rows.win turns)
+  pub all : after.all ≡ slice_set before.all turns number
+
+-- the same for the hands at some places
+abbrev pub AreTold : ℕ → List ℕ → List Rows → ℕ → List Chances → List Chances → Type 0
+AreTold turns places rows all before after =
+    (at : ℕ) (row : Rows) (chances : Chances) → at < length places → IsTold turns (slice_index_or rows (slice_index places at) row) all (slice_index_or before at chances) (slice_index_or after at chances)
+
+abbrev pub AreAllCounted : ShapeParts → List (List ℕ) → List ℕ → ℕ → ℕ → List Chances → Type 0
+AreAllCounted root hands places unseen turns each =
+    (at : ℕ) (chances : Chances) → at < length places → AreCounted (placed_hand root hands (slice_index places at)) unseen turns (slice_index_or each at chances)

@@ -129,9 +129,9 @@ fn rests_of<R: RowSource>(
     }
 }
 
-/// The places of what these discards leave.
+/// The places of what these discards leave, one for each of them.
 #[cycle(building)]
-fn places_of<R: RowSource>(
+pub(crate) fn places_of<R: RowSource>(
     source: &mut R,
     graph: &mut Graph,
     drawn: &ShapeRecord,
@@ -145,8 +145,8 @@ fn places_of<R: RowSource>(
     ensures grows { OnOk result (spec.Grows drawn.now graph.old graph.new) }
     ensures before { IfOk result
         (λ rests. spec.AreBefore (length graph.new.nodes.items) rests.items) }
-    ensures rests { IfOk result
-        (λ rests. spec.AreRests graph.new.hands.keys rests.items drawn.now) }
+    ensures left { IfOk result (λ rests. spec.AreLeft
+        graph.new.hands.keys rests.items drawn.now.tiles (spec.kinds_of discards.now)) }
     ensures stays { source.new ≡ source.old }
 {
     let mut places = Vec::new(graph.alloc);

@@ -3,13 +3,14 @@ ghost use Rattle.std.specs.Prelude.{◌≡◌, ◌<◌, ◌≤◌, IfOk, length,
 ghost use Rattle.riichi_hand.specs.Hand.{is_thirteen};
 ghost use Rattle.riichi_hand.specs.HandParts.{ShapeParts};
 ghost use Rattle.riichi_chances.specs.Chances as spec;
-ghost use Rattle.riichi_chances.specs.Graph.{IsGraph, hand_at};
+ghost use Rattle.riichi_chances.specs.Graph.{AreBefore, IsGraph};
 
 use crate::building::place_of;
 use crate::counting::fill;
 use crate::fault::ChancesFault;
 use crate::goal::Goal;
 use crate::graph::Graph;
+use crate::rows::Rows;
 use crate::span::Span;
 use crate::unseen::unseen;
 use riichi_hand::ShapeRecord;
@@ -37,6 +38,19 @@ impl Chances {
     }
 }
 
+impl Chances {
+    /// Tells those of one number of turns.
+    fn tell(&mut self, turns: u8, rows: &Rows, all: u128)
+        requires { turns ≤ 18 }
+        ensures { spec.IsTold turns rows.now all self.old self.new }
+    {
+        let place = turns as usize;
+        self.ready[place] = rows.ready[place];
+        self.win[place] = rows.win[place];
+        self.all[place] = all;
+    }
+}
+
 /// The chances of thirteen tiles for each number of turns up to this, if it comes to so many hands at most.
 pub fn chances_of<R: RowSource>(
     alloc: Global,
@@ -53,35 +67,53 @@ pub fn chances_of<R: RowSource>(
     let unseen = unseen(asked);
     let mut graph = Graph::new(alloc, most_hands);
     let place = place_of(source, &mut graph, asked)?;
-    let chances = by_turns(&graph, place, unseen, turns)?;
-    Ok(chances)
+    let each = by_turns(&graph, &[place], unseen, turns)?;
+    Ok(each[0])
 }
 
-/// The chances of the hand at a place, where so many tiles are unseen.
-fn by_turns(graph: &Graph, place: usize, unseen: u8, turns: u8) -> Result<Chances, AllocError>
+/// The chances of the hands at some places, where so many tiles are unseen.
+pub(crate) fn by_turns(
+    graph: &Graph,
+    places: &[usize],
+    unseen: u8,
+    turns: u8,
+) -> Result<Vec<Chances>, AllocError>
     requires turns { turns ≤ 18 }
     requires unseen { unseen ≤ 136 }
     requires graph { (root : ShapeParts) × IsGraph root graph.now }
-    requires inside { place < length graph.now.nodes.items }
-    ensures { (root : ShapeParts) → IsGraph root graph.now
-        → IfOk result (spec.AreCounted (hand_at root graph.now.hands.keys place) unseen turns) }
+    requires inside { AreBefore (length graph.now.nodes.items) places.now }
+    ensures each { IfOk result (λ each. length each.items ≡ length places.now) }
+    ensures counted { (root : ShapeParts) → IsGraph root graph.now → IfOk result (λ each.
+        spec.AreAllCounted root graph.now.hands.keys places.now unseen turns each.items) }
 {
     let mut rows = Vec::with_capacity(graph.alloc, graph.nodes.len())?;
-    let mut chances = Chances {
+    let none = Chances {
         ready: [0; 19],
         win: [0; 19],
         all: [0; 19],
     };
+    let mut each = vec![in graph.alloc; none; places.len()]?;
     for count in 0..turns + 1 {
         let span = Span {
             unseen,
             turns: count,
         };
         fill(&mut rows, graph, span)?;
-        let left = count as usize;
-        chances.ready[left] = rows[place].ready[left];
-        chances.win[left] = rows[place].win[left];
-        chances.all[left] = span.all_draws()[left];
+        let all = span.all_draws()[count as usize];
+        tell_each(&mut each, places, rows.as_slice(), count, all);
     }
-    Ok(chances)
+    Ok(each)
+}
+
+/// Tells those of one number of turns of the hands at some places.
+fn tell_each(each: &mut [Chances], places: &[usize], rows: &[Rows], turns: u8, all: u128)
+    requires turns { turns ≤ 18 }
+    requires each { length each.old ≡ length places.now }
+    requires inside { AreBefore (length rows.now) places.now }
+    ensures each { length each.new ≡ length each.old }
+    ensures told { spec.AreTold turns places.now rows.now all each.old each.new }
+{
+    for at in 0..places.len() {
+        each[at].tell(turns, &rows[places[at]], all);
+    }
 }

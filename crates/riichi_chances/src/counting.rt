@@ -1,7 +1,7 @@
 //! The numbers of each hand by those of the hands that it leads to.
 ghost use Rattle.std.specs.Prelude.{ℕ, ◌≡◌, ◌^◌, ◌<◌, ◌≤◌, OnOk, length, slice_index};
 ghost use Rattle.riichi_hand.specs.HandParts.{ShapeParts};
-ghost use Rattle.riichi_chances.specs.Aims.{HasRows, row_of};
+ghost use Rattle.riichi_chances.specs.Aims.{HasRows, numbers_for};
 ghost use Rattle.riichi_chances.specs.Draws.{greatest};
 ghost use Rattle.riichi_chances.specs.Graph as spec;
 ghost use Rattle.riichi_chances.specs.Numbers as numbers;
@@ -39,7 +39,7 @@ fn rows_at(graph: &Graph, place: usize, earlier: &[Rows], span: Span) -> Rows
     requires all_before { length earlier.now ≡ place }
     ensures { (root : ShapeParts) → spec.IsGraph root graph.now
         → spec.AreRows span root graph.now.hands.keys earlier.now
-        → HasRows span (spec.hand_at root graph.now.hands.keys place) result }
+        → HasRows span (spec.placed_hand root graph.now.hands.keys place) result }
 {
     let node = &graph.nodes[place];
     if node.is_ready {
@@ -75,9 +75,9 @@ fn begun(draws: &[Draw], earlier: &[Rows], turns: u8) -> Rows
     requires turns { turns ≤ 18 }
     requires before { spec.LeadBefore (length earlier.now) draws.now }
     requires fits { (goal : Goal) (left : ℕ) → left < turns
-        → spec.draws_value (spec.number_at goal earlier.now left) draws.now < 2 ^ 128 }
-    ensures { (goal : Goal) (left : ℕ) → left < turns → slice_index (row_of goal result) left
-        ≡ spec.draws_value (spec.number_at goal earlier.now left) draws.now }
+        → spec.draws_value (spec.placed_number goal earlier.now left) draws.now < 2 ^ 128 }
+    ensures { (goal : Goal) (left : ℕ) → left < turns → slice_index (numbers_for goal result) left
+        ≡ spec.draws_value (spec.placed_number goal earlier.now left) draws.now }
 {
     let mut sums = Rows::none();
     for draw in draws {
@@ -91,8 +91,8 @@ fn begun(draws: &[Draw], earlier: &[Rows], turns: u8) -> Rows
 fn best_of(places: &[usize], earlier: &[Rows], turns: u8) -> Rows
     requires turns { turns ≤ 18 }
     requires before { spec.AreBefore (length earlier.now) places.now }
-    ensures { (goal : Goal) (left : ℕ) → left < turns → slice_index (row_of goal result) left
-        ≡ greatest (spec.number_at goal earlier.now left) places.now }
+    ensures { (goal : Goal) (left : ℕ) → left < turns → slice_index (numbers_for goal result) left
+        ≡ greatest (spec.placed_number goal earlier.now left) places.now }
 {
     let mut best = Rows::none();
     for place in places {

@@ -1,6 +1,6 @@
 //! Numbers of draws for both goals.
 ghost use Rattle.std.specs.Prelude.{ℕ, ◌≡◌, ◌≤◌, slice_index};
-ghost use Rattle.riichi_chances.specs.Aims.{row_of};
+ghost use Rattle.riichi_chances.specs.Aims.{numbers_for};
 ghost use Rattle.riichi_chances.specs.Numbers as spec;
 ghost use Rattle.riichi_chances.specs.declared.goal.Goal.{Goal};
 
@@ -16,7 +16,7 @@ pub(crate) struct Rows {
 impl Rows {
     /// No draws.
     pub fn none() -> Rows
-        ensures { (goal : Goal) (left : ℕ) → slice_index (row_of goal result) left ≡ 0 }
+        ensures { (goal : Goal) (left : ℕ) → slice_index (numbers_for goal result) left ≡ 0 }
     {
         Rows {
             ready: [0; 19],
@@ -28,9 +28,9 @@ impl Rows {
     pub fn add_times(&mut self, more: &Rows, times: u8, turns: u8)
         requires turns { turns ≤ 18 }
         requires fits { (goal : Goal)
-            → spec.FitTogether turns times (row_of goal more.now) (row_of goal self.old) }
+            → spec.FitTogether turns times (numbers_for goal more.now) (numbers_for goal self.old) }
         ensures { (goal : Goal) → spec.AreAdded turns times
-            (row_of goal more.now) (row_of goal self.old) (row_of goal self.new) }
+            (numbers_for goal more.now) (numbers_for goal self.old) (numbers_for goal self.new) }
     {
         add_times(&mut self.ready, &more.ready, times, turns);
         add_times(&mut self.win, &more.win, times, turns);
@@ -40,7 +40,7 @@ impl Rows {
     pub fn keep_greater(&mut self, other: &Rows, turns: u8)
         requires { turns ≤ 18 }
         ensures { (goal : Goal) → spec.AreGreater turns
-            (row_of goal other.now) (row_of goal self.old) (row_of goal self.new) }
+            (numbers_for goal other.now) (numbers_for goal self.old) (numbers_for goal self.new) }
     {
         keep_greater(&mut self.ready, &other.ready, turns);
         keep_greater(&mut self.win, &other.win, turns);

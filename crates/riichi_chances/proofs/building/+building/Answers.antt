@@ -12,8 +12,8 @@ use Rattle.riichi_deeper.proofs.DrawnLemmas.{list_of_fourteen, list_of_thirteen,
 use Rattle.riichi_chances.specs.Graph.{Grows, LeadBefore}
 use Rattle.riichi_chances.specs.declared.graph.Draw.{Draw}
 use Rattle.riichi_chances.specs.declared.graph.Graph.{Graph}
-use Rattle.riichi_chances.proofs.BuildingLemmas.{DrawsSoFar, RestsSoFar, draws_end, draws_init, draws_none, draws_step, drawn_far, drawn_whole, no_draws_before, rest_whole, rests_end, rests_init, rests_step, thirteen_told}
-use Rattle.riichi_chances.proofs.CountingLemmas.{best_at, drawn_nearer, never_past}
+use Rattle.riichi_chances.proofs.BuildingLemmas.{DrawsSoFar, RestsSoFar, draws_end, draws_init, draws_none, draws_step, drawn_far, drawn_whole, no_draws_before, ok_as, rest_whole, rests_end, rests_init, rests_step, thirteen_told}
+use Rattle.riichi_chances.proofs.CountingLemmas.{best_at, drawn_nearer, left_rests, never_past}
 use Rattle.riichi_chances.proofs.GraphLemmas.{grows_after, grows_root, grows_same, same_root}
 use Rattle.riichi_chances.proofs.building.+building.Goals as goal
 use Rattle.riichi_chances.proofs.building.+building.Goals.{draws_of-then-live-gt0+in_ok-rests+in_ok-keep_draw, draws_of-else-live-gt0}
@@ -134,11 +134,16 @@ rests_of-places_of-requires g t c κs within =
 pub rests_of-unreachable-requires : goal.rests_of-unreachable-requires
 rests_of-unreachable-requires g t c = never_thirteen c.args.drawn.now c.shape_with-answer.result c.in-Thirteen.field-0 c.shape_with-answer.ensures.shape c.requires.whole.fourteen c.in-Thirteen.is
 
+pub rests_of-returns-clause-rests : goal.rests_of-returns-clause-rests
+rests_of-returns-clause-rests g t c =
+    let discards_is = list_of_fourteen c.args.drawn.now c.shape_with-answer.result c.in-Fourteen.discards c.shape_with-answer.ensures.shape c.requires.whole.fourteen c.in-Fourteen.is in
+    ok_as c.places_of.result (λ rests left. left_rests c.places_of.new.graph.hands.keys rests.items c.args.drawn.now c.in-Fourteen.discards discards_is left) c.places_of.ensures.left
+
 pub places_of-loop-at-init : goal.places_of-loop-at-init
 places_of-loop-at-init g t c = record {
   stays = refl;
   grows = grows_same c.args.drawn.now c.args.graph.now c.requires.graph;
-  so_far = subst (λ (places : List ℕ). RestsSoFar c.args.drawn.now c.args.discards.now c.args.graph.now places 0) (sym c.new-places.ensures.items) (rests_init c.args.drawn.now c.args.discards.now c.args.graph.now c.requires.discards);
+  so_far = subst (λ (places : List ℕ). RestsSoFar c.args.drawn.now c.args.discards.now c.args.graph.now places 0) (sym c.new-places.ensures.items) (rests_init c.args.drawn.now c.args.discards.now c.args.graph.now);
 }
 
 pub places_of-best_discarded-rest-requires-clause-best : goal.places_of-best_discarded-rest-requires-clause-best
@@ -175,5 +180,5 @@ places_of-loop-at-preserved g t c =
       so_far = rests_step drawn c.args.discards.now before after so_far.grows.whole grown c.loop-at.at c.loop-at.places.items c.keep_place.new.places.items so_far.so_far c.in-Some.discard (sym c.in-Some.is ∙ c.short_at.ensures) rest rest_is c.in_ok-place-in-Some.place c.in_ok-place-in-Some.ensures.place c.in_ok-keep_place-in-Some.ensures;
     }
 
-pub places_of-returns-clause-rests : goal.places_of-returns-clause-rests
-places_of-returns-clause-rests g t c = rests_end c.args.drawn.now c.args.discards.now c.loop-at.graph c.loop-at.places.items c.loop-at.at (omega (arith, c.loop-at-test.false, c.len-at-end.ensures.value)) c.loop-at.invariant.so_far
+pub places_of-returns-clause-left : goal.places_of-returns-clause-left
+places_of-returns-clause-left g t c = rests_end c.args.drawn.now c.args.discards.now c.loop-at.graph c.loop-at.places.items c.loop-at.at (omega (arith, c.loop-at-test.false, c.len-at-end.ensures.value)) c.loop-at.invariant.so_far

@@ -1,17 +1,15 @@
-use Rattle.riichi_chances.specs.Graph.{hand_at}
-use Rattle.riichi_chances.proofs.ChancesLemmas.{are_chances, placed}
+use Rattle.std.proofs.Common.{sym, subst, arith}
+use Rattle.riichi_chances.specs.Chances.{AreCounted}
+use Rattle.riichi_chances.specs.Graph.{placed_hand}
+use Rattle.riichi_chances.proofs.ChancesLemmas.{of_thirteen, placed}
 use Rattle.riichi_chances.proofs.chances.chances_of.Goals as goal
-
-pub by_turns-requires-clause-graph : goal.by_turns-requires-clause-graph
-by_turns-requires-clause-graph g c = (c.args.asked.now, c.in_ok-place.ensures.grows.whole)
-
-pub by_turns-requires-clause-inside : goal.by_turns-requires-clause-inside
-by_turns-requires-clause-inside g c = c.in_ok-place.ensures.place.inside
-
-pub returns-clause-chances : goal.returns-clause-chances
-returns-clause-chances g c =
-    are_chances c.args.asked.now (hand_at c.args.asked.now c.place_of.new.graph.hands.keys c.in_ok-place.place) c.unseen-unseen.result c.args.turns c.in_ok-chances.chances c.unseen-unseen.ensures.whole (placed c.place_of.new.graph c.args.asked.now c.in_ok-place.place c.in_ok-place.ensures.place) c.unseen-unseen.ensures.value
-    (c.in_ok-chances.ensures c.args.asked.now c.in_ok-place.ensures.grows.whole)
 
 pub place_of-requires-clause-graph : goal.place_of-requires-clause-graph
 place_of-requires-clause-graph g c = c.new-graph.ensures c.args.asked.now
+
+pub returns-clause-chances : goal.returns-clause-chances
+returns-clause-chances g c =
+    let asked = c.args.asked.now in
+    let graph = c.place_of.new.graph in
+    of_thirteen asked (placed_hand asked graph.hands.keys c.in_ok-place.place) c.unseen-unseen.result c.args.turns c.index.result.now (c.unseen-unseen.ensures.thirteen c.requires.thirteen) (placed graph asked c.in_ok-place.place c.in_ok-place.ensures.place) c.unseen-unseen.ensures.value
+    (subst (AreCounted (placed_hand asked graph.hands.keys c.in_ok-place.place) c.unseen-unseen.result c.args.turns) (sym c.index.ensures) (c.in_ok-each.ensures.counted asked c.in_ok-place.ensures.grows.whole 0 c.index.result.now (omega arith)))

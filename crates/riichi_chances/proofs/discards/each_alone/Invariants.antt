@@ -1,7 +1,8 @@
 use Rattle.std.proofs.Common.{◌≡◌, take}
 use Rattle.riichi_chances.specs.Chances.{AreAfter}
-use Rattle.riichi_chances.proofs.ChancesLemmas.{kinds_of, told_kinds}
-use Rattle.riichi_chances.proofs.discards.after_each.Given as goal
+use Rattle.riichi_chances.proofs.ChancesLemmas.{told_kinds}
+use Rattle.riichi_chances.specs.Graph.{kinds_of}
+use Rattle.riichi_chances.proofs.discards.each_alone.Given as goal
 
 -- the chances after the first discards
 abbrev pub invariant-loop-at : goal.invariant-loop-at

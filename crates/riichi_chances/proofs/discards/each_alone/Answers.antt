@@ -3,9 +3,10 @@ use Rattle.std.proofs.lemmas.List.{take_all}
 use Rattle.riichi_shape.specs.declared.discard.Discard.{Discard}
 use Rattle.riichi_chances.specs.Chances.{AreAfter}
 use Rattle.riichi_chances.specs.declared.discards.DiscardChances.{DiscardChances}
-use Rattle.riichi_chances.proofs.ChancesLemmas.{after_more, after_none, kinds_of, told_kinds, told_more}
+use Rattle.riichi_chances.proofs.ChancesLemmas.{after_more, after_none, told_kinds, told_more}
+use Rattle.riichi_chances.specs.Graph.{kinds_of}
 use Rattle.riichi_chances.proofs.CountingLemmas.{best_at, never_past}
-use Rattle.riichi_chances.proofs.discards.after_each.Goals as goal
+use Rattle.riichi_chances.proofs.discards.each_alone.Goals as goal
 
 pub loop-at-init : goal.loop-at-init
 loop-at-init g c = record {

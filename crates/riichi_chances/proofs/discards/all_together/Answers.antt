@@ -1,0 +1,21 @@
+use Rattle.std.proofs.Common.{List, ℕ, length, ap, subst, ◌∙◌}
+use Rattle.riichi_chances.specs.Chances.{AreAllCounted}
+use Rattle.riichi_chances.proofs.ChancesLemmas.{after_all, as_many}
+use Rattle.riichi_chances.proofs.discards.all_together.Goals as goal
+
+pub places_of-requires-clause-graph : goal.places_of-requires-clause-graph
+places_of-requires-clause-graph g c = c.new-graph.ensures c.args.asked.now
+
+pub with_kinds-requires : goal.with_kinds-requires
+with_kinds-requires g c =
+    let asked = c.args.asked.now in
+    ap length c.as_slice-2.ensures.value ∙ c.in_ok-chances.ensures.each ∙ ap length c.as_slice.ensures.value
+    ∙ as_many asked (c.unseen-unseen.ensures.fourteen c.requires.fourteen) c.requires.far c.args.discards.now c.requires.discards c.places_of.new.graph.hands.keys c.in_ok-places.places.items c.in_ok-places.ensures.left
+
+pub returns-clause-chances : goal.returns-clause-chances
+returns-clause-chances g c =
+    let asked = c.args.asked.now in
+    let keys = c.places_of.new.graph.hands.keys in
+    let chances = c.in_ok-chances.chances.items in
+    let counted = subst (λ (places : List ℕ). AreAllCounted asked keys places c.unseen-unseen.result c.args.turns chances) c.as_slice.ensures.value (c.in_ok-chances.ensures.counted asked c.in_ok-places.ensures.grows.whole) in
+    after_all asked (c.unseen-unseen.ensures.fourteen c.requires.fourteen) c.requires.far c.args.discards.now c.requires.discards keys c.in_ok-places.places.items c.in_ok-places.ensures.left c.unseen-unseen.result c.args.turns chances c.in_ok-each.each.items c.unseen-unseen.ensures.value counted c.in_ok-each.ensures.kinds (c.in_ok-each.ensures.chances ∙ c.as_slice-2.ensures.value)
