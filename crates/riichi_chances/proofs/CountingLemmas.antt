@@ -135,7 +135,7 @@ kinds_more (discard ∷ rest) (suc at) short e = ap (λ n. kinds_of (take n (dis
     one n = omega arith
 
 -- a discard of the list is one of the best
-found_at : (discards : List Discard) (place : ℕ) (short : ShortDiscard) → Some short ≡ option_map short_of (slice_get discards place) → (discard : Discard) × IsIn discard discards × (discard.kind ≡ short.kind)
+pub found_at : (discards : List Discard) (place : ℕ) (short : ShortDiscard) → Some short ≡ option_map short_of (slice_get discards place) → (discard : Discard) × IsIn discard discards × (discard.kind ≡ short.kind)
 found_at [] place short e = absurd (cc)
 found_at (discard ∷ rest) zero short e = let same : short ≡ short_of discard = cc in (discard, inl refl, ap (λ (s : ShortDiscard). s.kind) (sym same))
 found_at (discard ∷ rest) (suc place) short e = let found = found_at rest place short e in (found.0, inr found.1, found.2)
@@ -155,6 +155,31 @@ best_listed drawn discards place is low =
     let found = listed discards place low in
     subst (LeavesLeast drawn.tiles drawn.melds) found.2 ((discards_are drawn.tiles drawn.melds drawn.seen found.0).0 (subst (λ (ds : List Discard). Contains ds found.0) is (Contains-in found.0 discards found.1))).0
 
+-- a best discard is listed
+in_put : (item discard : Discard) (rest : List Discard) → IsIn item (discard ∷ rest) → IsIn item (inserted discard rest)
+unfolding inserted_by
+in_put item discard [] there = there
+in_put item discard (next ∷ rest) there = by_test (nat_le (live_with next) (live_with discard)) there (in_put item discard rest)
+  where
+    by_test : (t : Bool) → IsIn item (discard ∷ next ∷ rest) → (IsIn item (discard ∷ rest) → IsIn item (inserted discard rest)) → IsIn item (cond t (discard ∷ next ∷ rest) (next ∷ inserted discard rest))
+    by_test true i later = i
+    by_test false (inl e) later = inr (later (inl e))
+    by_test false (inr (inl e)) later = inl e
+    by_test false (inr (inr i)) later = inr (later (inr i))
+
+in_ordered : (item : Discard) (discards : List Discard) → IsIn item discards → IsIn item (in_order discards)
+unfolding in_order
+in_ordered item [] there = there
+in_ordered item (discard ∷ rest) (inl e) = in_put item discard (in_order rest) (inl e)
+in_ordered item (discard ∷ rest) (inr there) = in_put item discard (in_order rest) (inr (in_ordered item rest there))
+
+pub best_in : (drawn : ShapeParts) (kind : ℕ) → kind < 34 → is_discard drawn.tiles drawn.melds kind ≡ true → IsIn kind (kinds_of (discards_of drawn.tiles drawn.melds drawn.seen))
+unfolding discards_of
+best_in drawn kind low best =
+    let made = discard_of drawn.tiles drawn.melds drawn.seen in
+    let best_kinds = filter (is_discard drawn.tiles drawn.melds) every_kind in
+    in-map (λ (discard : Discard). discard.kind) (made kind) (in_order (map made best_kinds)) (in_ordered (made kind) (map made best_kinds) (in-map made kind best_kinds (in-filter (is_discard drawn.tiles drawn.melds) kind every_kind (in-range 34 0 kind (omega arith) (omega (arith, low))) best)))
+
 pub never_past : (discards : List Discard) (place : ℕ) → place < length discards → None ≡ option_map short_of (slice_get discards place) → ⊥
 never_past [] place low e = omega arith
 never_past (discard ∷ rest) zero low e = cc
@@ -167,20 +192,22 @@ zero_at zero k = refl
 zero_at (suc n) zero = refl
 zero_at (suc n) (suc k) = zero_at n k
 
--- a kind of the list brings the hand nearer
-pub drawn_nearer : (parts : ShapeParts) (copies : List ℕ) (number place : ℕ) (drawn : ShapeParts) → pairs_of copies ≡ accepted_of parts.tiles parts.melds parts.seen → number < 34 → 0 < slice_index copies number → place ≡ number → drawn ≡ parts_with parts place → distance_of drawn.tiles drawn.melds < distance_of parts.tiles parts.melds
+-- a kind of the list is accepted
+pub drawn_accepted : (parts : ShapeParts) (copies : List ℕ) (number : ℕ) → pairs_of copies ≡ accepted_of parts.tiles parts.melds parts.seen → number < 34 → 0 < slice_index copies number → is_accepted parts.tiles parts.melds parts.seen number ≡ true
 unfolding pairs_of accepted_of
-drawn_nearer parts copies number place drawn same low some place_is drawn_is =
+drawn_accepted parts copies number same low some =
     let live : ℕ → ℕ = live_of parts.tiles parts.melds parts.seen in
     let there : IsIn (number, slice_index copies number) (accepted_of parts.tiles parts.melds parts.seen) =
     subst (λ (pairs : List (ℕ × ℕ)). IsIn (number, slice_index copies number) pairs) same
     (in-map (pair_at copies) number (filter (has_copies copies) every_kind) (in-filter (has_copies copies) number every_kind (in-range 34 0 number (omega arith) (omega (arith, low))) (lt-ltb 0 (slice_index copies number) some))) in
     let made = in-map-inv (λ k. (k, live k)) (number, slice_index copies number) (filter (is_accepted parts.tiles parts.melds parts.seen) every_kind) there in
-    let kept = in-filter-inv (is_accepted parts.tiles parts.melds parts.seen) made.0 every_kind made.1 in
-    let same_kind : made.0 ≡ number = ap (λ (p : ℕ × ℕ). p.0) made.2 in
-    let tests = and_parts (nat_lt 0 (live made.0)) (nat_lt (distance_of (with_one parts.tiles made.0) parts.melds) (distance_of parts.tiles parts.melds)) kept.1 in
-    let nearer = ltb-true (distance_of (with_one parts.tiles made.0) parts.melds) (distance_of parts.tiles parts.melds) tests.1 in
-    omega (arith, nearer, ap (λ k. distance_of (with_one parts.tiles k) parts.melds) same_kind, ap (λ (p : ShapeParts). distance_of p.tiles p.melds) (drawn_is ∙ ap (parts_with parts) place_is))
+    ap (is_accepted parts.tiles parts.melds parts.seen) (sym (ap (λ (p : ℕ × ℕ). p.0) made.2)) ∙ (in-filter-inv (is_accepted parts.tiles parts.melds parts.seen) made.0 every_kind made.1).1
+
+-- so it brings the hand nearer
+pub drawn_nearer : (parts : ShapeParts) (copies : List ℕ) (number place : ℕ) (drawn : ShapeParts) → pairs_of copies ≡ accepted_of parts.tiles parts.melds parts.seen → number < 34 → 0 < slice_index copies number → place ≡ number → drawn ≡ parts_with parts place → distance_of drawn.tiles drawn.melds < distance_of parts.tiles parts.melds
+drawn_nearer parts copies number place drawn same low some place_is drawn_is =
+    let tests = and_parts (nat_lt 0 (live_of parts.tiles parts.melds parts.seen number)) (nat_lt (distance_of (with_one parts.tiles number) parts.melds) (distance_of parts.tiles parts.melds)) (drawn_accepted parts copies number same low some) in
+    omega (arith, ltb-true (distance_of (with_one parts.tiles number) parts.melds) (distance_of parts.tiles parts.melds) tests.1, ap (λ (p : ShapeParts). distance_of p.tiles p.melds) (drawn_is ∙ ap (parts_with parts) place_is))
 
 pub far_some : (goal : ℕ) (parts : ShapeParts) → is_there goal parts ≡ false → 0 < distance_of parts.tiles parts.melds
 far_some goal parts far = omega (arith, leb-false (distance_of parts.tiles parts.melds) goal far)

@@ -74,7 +74,7 @@ node_grown before after place parts node more few is =
 -- ---- one more hand
 
 module _ (root : ShapeParts) (before after : Graph) (hand : List ℕ) (node : Node) (is : IsGraph root before) (hands_are : after.hands.keys ≡ before.hands.keys ++ hand ∷ []) (nodes_are : after.nodes.items ≡ before.nodes.items ++ node ∷ [])
-    (new : IsNode before.hands.keys (length before.nodes.items) (record { tiles = hand; melds = root.melds; seen = root.seen }) node) where
+    (new : IsNode before.hands.keys (length before.nodes.items) (record { tiles = hand; melds = root.melds; seen = root.seen }) node) (room : length before.nodes.items < after.most_hands) where
   more_hands : length after.hands.keys ≡ length before.hands.keys + 1
   more_hands = ap length hands_are ∙ length-append before.hands.keys (hand ∷ [])
 
@@ -91,7 +91,7 @@ module _ (root : ShapeParts) (before after : Graph) (hand : List ℕ) (node : No
   here_node n = ap (λ (ns : List Node). slice_index_or ns (length before.nodes.items) n) nodes_are ∙ get_or_push before.nodes.items node n (length before.nodes.items) refl
 
   pub taken_graph : IsGraph root after
-  taken_graph = record { each = omega (arith, more_hands, more_nodes, is.each); node = λ p n low. ⊎_elim (at_last p n) (λ ne. earlier p n (omega (arith, more_nodes, low, ne))) (cases_eq p (length before.nodes.items)) }
+  taken_graph = record { each = omega (arith, more_hands, more_nodes, is.each); few = omega (arith, more_nodes, room); node = λ p n low. ⊎_elim (at_last p n) (λ ne. earlier p n (omega (arith, more_nodes, low, ne))) (cases_eq p (length before.nodes.items)) }
     where
       earlier : (p : ℕ) (n : Node) → p < length before.nodes.items → IsNode after.hands.keys p (placed_hand root after.hands.keys p) (slice_index_or after.nodes.items p n)
       earlier p n low =
@@ -109,9 +109,10 @@ module _ (root : ShapeParts) (before after : Graph) (hand : List ℕ) (node : No
       at_last p n e = subst (λ (q : ℕ). IsNode after.hands.keys q (placed_hand root after.hands.keys q) (slice_index_or after.nodes.items q n)) (sym e) (there n)
 
 -- the graph is the same
-pub same_graph : (root : ShapeParts) (before after : Graph) → IsGraph root before → after.hands.keys ≡ before.hands.keys → after.nodes.items ≡ before.nodes.items → IsGraph root after
-same_graph root before after is hands_are nodes_are = record {
+pub same_graph : (root : ShapeParts) (before after : Graph) → IsGraph root before → after.hands.keys ≡ before.hands.keys → after.nodes.items ≡ before.nodes.items → after.most_hands ≡ before.most_hands → IsGraph root after
+same_graph root before after is hands_are nodes_are most_is = record {
   each = ap length hands_are ∙ is.each ∙ sym (ap length nodes_are);
+  few = omega (arith, ap length nodes_are, most_is, is.few);
   node = λ p n low.
       subst (λ (ns : List Node). IsNode after.hands.keys p (placed_hand root after.hands.keys p) (slice_index_or ns p n)) (sym nodes_are)
       (subst (λ (ks : List (List ℕ)). IsNode ks p (placed_hand root ks p) (slice_index_or before.nodes.items p n)) (sym hands_are) (is.node p n (omega (arith, low, ap length nodes_are))));
@@ -150,16 +151,17 @@ known_place graph parts hand (Some place) is hand_is e =
 pub same_root : (one other : ShapeParts) (graph : Graph) → one.melds ≡ other.melds → one.seen ≡ other.seen → IsGraph one graph → IsGraph other graph
 same_root one other graph e f is = record {
   each = is.each;
+  few = is.few;
   node = λ p n low.
       subst (λ (ms : List Meld). IsNode graph.hands.keys p (record { tiles = slice_index_or graph.hands.keys p []; melds = ms; seen = other.seen }) (slice_index_or graph.nodes.items p n)) e
       (subst (λ (s : List ℕ). IsNode graph.hands.keys p (record { tiles = slice_index_or graph.hands.keys p []; melds = one.melds; seen = s }) (slice_index_or graph.nodes.items p n)) f (is.node p n low));
 }
 
 pub grows_same : (root : ShapeParts) (graph : Graph) → IsGraph root graph → Grows root graph graph
-grows_same root graph is = record { whole = is; more = more_same graph.hands.keys }
+grows_same root graph is = record { whole = is; more = more_same graph.hands.keys; most = refl }
 
 pub grows_after : (root : ShapeParts) (one two three : Graph) → Grows root one two → Grows root two three → Grows root one three
-grows_after root one two three f g = record { whole = g.whole; more = more_after one.hands.keys two.hands.keys three.hands.keys f.more g.more }
+grows_after root one two three f g = record { whole = g.whole; more = more_after one.hands.keys two.hands.keys three.hands.keys f.more g.more; most = g.most ∙ f.most }
 
 pub grows_root : (one other : ShapeParts) (before after : Graph) → one.melds ≡ other.melds → one.seen ≡ other.seen → Grows one before after → Grows other before after
-grows_root one other before after e f grows = record { whole = same_root one other after e f grows.whole; more = grows.more }
+grows_root one other before after e f grows = record { whole = same_root one other after e f grows.whole; more = grows.more; most = grows.most }

@@ -143,7 +143,7 @@ accepted_in parts pair there =
 
 -- ---- fourteen tiles that aren't complete: some discard is best, and it leaves as near
 
-greatest_some : (f : ℕ → ℕ) (kinds : List ℕ) (kind : ℕ) → IsIn kind kinds → f kind ≤ greatest f kinds
+pub greatest_some : (f : ℕ → ℕ) (kinds : List ℕ) (kind : ℕ) → IsIn kind kinds → f kind ≤ greatest f kinds
 unfolding greatest
 greatest_some f [] kind there = absurd there
 greatest_some f (k ∷ ks) kind (inl e) = omega (arith, ap f e)

@@ -70,6 +70,7 @@ pub record IsNode (hands : List (List ℕ)) (place : ℕ) (parts : ShapeParts) (
 
 pub record IsGraph (root : ShapeParts) (graph : Graph) : Type 0 where
   pub each : length graph.hands.keys ≡ length graph.nodes.items
+  pub few : length graph.nodes.items ≤ graph.most_hands
   pub node : (place : ℕ) (node : Node) → place < length graph.nodes.items → IsNode graph.hands.keys place (placed_hand root graph.hands.keys place) (slice_index_or graph.nodes.items place node)
 
 -- hands came behind those that were there
@@ -81,6 +82,7 @@ pub record IsMore (before after : List (List ℕ)) : Type 0 where
 pub record Grows (root : ShapeParts) (before after : Graph) : Type 0 where
   pub whole : IsGraph root after
   pub more : IsMore before.hands.keys after.hands.keys
+  pub most : after.most_hands ≡ before.most_hands
 
 -- the hand stands there
 pub record IsPlaceOf (graph : Graph) (parts : ShapeParts) (place : ℕ) : Type 0 where

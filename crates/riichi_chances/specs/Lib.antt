@@ -5,3 +5,4 @@ pub mod Draws
 pub mod Graph
 pub mod Laws
 pub mod Numbers
+pub mod Reachable

@@ -1,9 +1,10 @@
 //! The chances of a hand by each number of turns.
-ghost use Rattle.std.specs.Prelude.{◌≡◌, ◌<◌, ◌≤◌, IfOk, length, true};
+ghost use Rattle.std.specs.Prelude.{◌≡◌, ◌<◌, ◌≤◌, IfOk, OnOk, length, true};
 ghost use Rattle.riichi_hand.specs.Hand.{is_thirteen};
 ghost use Rattle.riichi_hand.specs.HandParts.{ShapeParts};
 ghost use Rattle.riichi_chances.specs.Chances as spec;
 ghost use Rattle.riichi_chances.specs.Graph.{AreBefore, IsGraph};
+ghost use Rattle.riichi_chances.specs.Reachable.{ComesToFew, ComesToMore, OnTooMany, alone};
 
 use crate::building::place_of;
 use crate::counting::fill;
@@ -62,6 +63,8 @@ pub fn chances_of<R: RowSource>(
     requires thirteen { is_thirteen asked.now.tiles asked.now.melds ≡ true }
     requires turns { turns ≤ 18 }
     ensures chances { IfOk result (spec.AreChances asked.now turns) }
+    ensures few { OnOk result (ComesToFew most_hands (alone asked.now)) }
+    ensures many { OnTooMany result (ComesToMore most_hands (alone asked.now)) }
     ensures stays { source.new ≡ source.old }
 {
     let unseen = unseen(asked);

@@ -1,11 +1,13 @@
-use Rattle.std.proofs.Common.{sym, subst, arith}
+use Rattle.std.proofs.Common.{refl, sym, subst, ◌∙◌, arith}
 use Rattle.riichi_chances.specs.Chances.{AreCounted}
 use Rattle.riichi_chances.specs.Graph.{placed_hand}
 use Rattle.riichi_chances.proofs.ChancesLemmas.{of_thirteen, placed}
+use Rattle.riichi_chances.specs.Reachable.{alone}
+use Rattle.riichi_chances.proofs.ReachableLemmas.{alone_comes, alone_few, more_as, none_within, too_many_then}
 use Rattle.riichi_chances.proofs.chances.chances_of.Goals as goal
 
 pub place_of-requires-clause-graph : goal.place_of-requires-clause-graph
-place_of-requires-clause-graph g c = c.new-graph.ensures c.args.asked.now
+place_of-requires-clause-graph g c = c.new-graph.ensures.graph c.args.asked.now
 
 pub returns-clause-chances : goal.returns-clause-chances
 returns-clause-chances g c =
@@ -13,3 +15,12 @@ returns-clause-chances g c =
     let graph = c.place_of.new.graph in
     of_thirteen asked (placed_hand asked graph.hands.keys c.in_ok-place.place) c.unseen-unseen.result c.args.turns c.index.result.now (c.unseen-unseen.ensures.thirteen c.requires.thirteen) (placed graph asked c.in_ok-place.place c.in_ok-place.ensures.place) c.unseen-unseen.ensures.value
     (subst (AreCounted (placed_hand asked graph.hands.keys c.in_ok-place.place) c.unseen-unseen.result c.args.turns) (sym c.index.ensures) (c.in_ok-each.ensures.counted asked c.in_ok-place.ensures.grows.whole 0 c.index.result.now (omega arith)))
+
+pub returns-clause-few : goal.returns-clause-few
+returns-clause-few g c = alone_few c.args.asked.now c.place_of.new.graph c.in_ok-place.place c.args.most_hands c.in_ok-place.ensures.grows.whole c.in_ok-place.ensures.place (c.in_ok-place.ensures.grows.most ∙ c.new-graph.ensures.most)
+
+pub returns-in_err-place-clause-many : goal.returns-in_err-place-clause-many
+returns-in_err-place-clause-many g c =
+    let asked = c.args.asked.now in
+    too_many_then c.in_err-place.field-0.0 c.from_residual.result c.from_residual.ensures.1 (more_as c.args.most_hands c.new-graph.result.most_hands (alone asked) c.new-graph.ensures.most)
+    (c.in_err-place.ensures.many (alone asked) (none_within (alone asked) asked c.new-graph.result refl refl c.new-graph.ensures.none) (alone_comes asked))

@@ -1,17 +1,23 @@
 use Rattle.std.proofs.Common.{List, refl, sym, ap, subst, ◌∙◌, arith}
 use Rattle.std.proofs.lemmas.List.{take_all}
+use Rattle.riichi_hand.specs.HandParts.{ShapeParts}
+use Rattle.riichi_tiles.proofs.Members.{IsIn, in-Contains}
+use Rattle.riichi_deeper.specs.Drawn.{parts_without}
 use Rattle.riichi_shape.specs.declared.discard.Discard.{Discard}
 use Rattle.riichi_chances.specs.Chances.{AreAfter}
 use Rattle.riichi_chances.specs.declared.discards.DiscardChances.{DiscardChances}
 use Rattle.riichi_chances.proofs.ChancesLemmas.{after_more, after_none, told_kinds, told_more}
 use Rattle.riichi_chances.specs.Graph.{kinds_of}
 use Rattle.riichi_chances.proofs.CountingLemmas.{best_at, never_past}
+use Rattle.riichi_chances.specs.Reachable.{ComesToFew, ComesToMore, alone}
+use Rattle.riichi_chances.proofs.ReachableLemmas.{each_more, kind_found, too_many_then}
 use Rattle.riichi_chances.proofs.discards.each_alone.Goals as goal
 
 pub loop-at-init : goal.loop-at-init
 loop-at-init g c = record {
   stays = refl;
   told = ap told_kinds c.new-each.ensures.items;
+  few = λ kind there. absurd there;
   after = subst (λ (each : List DiscardChances). AreAfter c.args.asked.now c.args.turns each) (sym c.new-each.ensures.items) (after_none c.args.asked.now c.args.turns);
 }
 
@@ -28,6 +34,8 @@ loop-at-preserved g c =
     record {
       stays = c.chances_of.ensures.stays ∙ so_far.stays;
       told = told_more c.loop-at.each.items c.keep.new.each.items one c.args.discards.now c.loop-at.at c.in-Some.discard (sym c.in-Some.is ∙ c.short_at.ensures) refl c.in_ok-keep-in-Some.ensures so_far.told;
+      few = each_more c.args.discards.now c.loop-at.at c.in-Some.discard (sym c.in-Some.is ∙ c.short_at.ensures) (λ kind. ComesToFew c.args.most_hands (alone (parts_without c.args.asked.now kind))) so_far.few
+          (subst (λ (parts : ShapeParts). ComesToFew c.args.most_hands (alone parts)) c.without_tile-rest.ensures.value c.in_ok-chances-in-Some.ensures.few);
       after = after_more c.args.asked.now c.without_tile-rest.result c.args.turns c.loop-at.each.items c.keep.new.each.items one so_far.after c.without_tile-rest.ensures.value c.in_ok-chances-in-Some.ensures.chances c.in_ok-keep-in-Some.ensures;
     }
 
@@ -37,3 +45,13 @@ returns-clause-each g c =
 
 pub returns-clause-chances : goal.returns-clause-chances
 returns-clause-chances g c = c.loop-at.invariant.after
+
+pub returns-clause-few : goal.returns-clause-few
+returns-clause-few g c = λ kind there.
+    c.loop-at.invariant.few kind (subst (λ (discards : List Discard). IsIn kind (kinds_of discards)) (sym (take_all c.loop-at.at c.args.discards.now (omega (arith, c.loop-at-test.false, c.len-at-end.ensures.value)))) (in-Contains kind (kinds_of c.args.discards.now) there))
+
+pub returns-in_err-chances-in-Some-clause-many : goal.returns-in_err-chances-in-Some-clause-many
+returns-in_err-chances-in-Some-clause-many g c =
+    too_many_then c.in_err-chances-in-Some.field-0.0 c.from_residual.result c.from_residual.ensures.1
+    (λ (many : ComesToMore c.args.most_hands (alone c.without_tile-rest.result)). (c.in-Some.discard.kind, kind_found c.args.discards.now c.loop-at.at c.in-Some.discard (sym c.in-Some.is ∙ c.short_at.ensures), subst (λ (parts : ShapeParts). ComesToMore c.args.most_hands (alone parts)) c.without_tile-rest.ensures.value many))
+    c.in_err-chances-in-Some.ensures.many
