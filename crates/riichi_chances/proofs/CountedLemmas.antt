@@ -59,6 +59,13 @@ AgreeOnLacked = KnowsLacked AreSame
 pub one_less_same : (a b : ℕ) → AreSame a b → AreSame (a - 1) (b - 1)
 one_less_same a b e = ap (λ n. n - 1) e
 
+-- a tile that is not lacked brings nothing there
+pub no_nearer : (goal : ℕ) (hand : List ℕ) (melds : List Meld) (seen : List ℕ) → is_there goal (parts_of hand melds seen) ≡ false → (kind : ℕ) → is_lacked hand melds kind ≡ false → is_there goal (parts_with (parts_of hand melds seen) kind) ≡ false
+no_nearer goal hand melds seen far kind not = told_far (distance_of (with_one hand kind) melds) (omega (arith, leb-false (distance_of hand melds) goal far, ltb-false (distance_of (with_one hand kind) melds) (distance_of hand melds) not))
+  where
+    told_far : (d : ℕ) → goal < d → nat_le d goal ≡ false
+    told_far d more = grind (arith, nat_tests)
+
 module _ (melds : List Meld) (melded : (kind : ℕ) → kind < 34 → tiles melds kind ≤ 4) (Alike : ℕ → ℕ → Type 0) where
   -- a best discard of fourteen tiles that are not complete: what is lacked then was not thrown
   module _ (drawn seen told : List ℕ) (long : length drawn ≡ 34) (seen_long : length seen ≡ 34) (told_long : length told ≡ 34) (fourteen : size drawn melds ≡ 14) (far : 0 < distance_of drawn melds) (thrown : ℕ) (low : thrown < 34) (best : is_discard drawn melds thrown ≡ true)
@@ -238,12 +245,6 @@ module _ (melds : List Meld) (melded : (kind : ℕ) → kind < 34 → tiles meld
         by_test false true is e here there = there refl
         by_test false false is e here there = absurd (cc)
 
-    no_nearer : (kind : ℕ) → is_lacked hand melds kind ≡ false → is_there goal (parts_with (parts_of hand melds seen) kind) ≡ false
-    no_nearer kind not = told_far (distance_of (with_one hand kind) melds) (omega (arith, leb-false (distance_of hand melds) goal far, ltb-false (distance_of (with_one hand kind) melds) (distance_of hand melds) not))
-      where
-        told_far : (d : ℕ) → goal < d → nat_le d goal ≡ false
-        told_far d more = grind (arith, nat_tests)
-
     other_value : (kind : ℕ) → kind < 34 → is_accepted hand melds seen kind ≡ false → copies kind * after kind ≡ copies kind * common
     other_value kind inside not = ⊎_elim some_live (λ none. no_live (copies kind) (after kind) common (omega (arith, none))) (cases_lt 0 (copies kind))
       where
@@ -263,7 +264,7 @@ module _ (melds : List Meld) (melded : (kind : ℕ) → kind < 34 → tiles meld
         some_live some =
             let alone = not_lacked (nat_lt 0 (copies kind)) (is_lacked hand melds kind) not (lt-ltb 0 (copies kind) some) in
             ap (λ m. copies kind * m)
-            (by_test (all_draws (unseen_of (parts_of hand melds seen) - 1) left) (best_rest drawn_value (parts_with (parts_of hand melds seen) kind)) (is_there goal (parts_with (parts_of hand melds seen) kind)) (is_accepted hand melds seen kind) (no_nearer kind alone) not
+            (by_test (all_draws (unseen_of (parts_of hand melds seen) - 1) left) (best_rest drawn_value (parts_with (parts_of hand melds seen) kind)) (is_there goal (parts_with (parts_of hand melds seen) kind)) (is_accepted hand melds seen kind) (no_nearer goal hand melds seen far kind alone) not
             (later hand (with_one seen kind) told (n - 1) (passed melds melded AreSame one_less_same hand seen told know kind inside alone) (one_fewer (unseen_of (parts_of hand melds (with_one seen kind))) (passed_unseen melds melded AreSame one_less_same hand seen told know kind inside some))))
 
     pub one_turn : sum_by (λ kind. copies kind * after kind) every_kind ≡ (n - live_in (accepts (parts_of hand melds told))) * common + accepted_draws goal (n - 1) left told_value (parts_of hand melds told)

@@ -1,8 +1,10 @@
 pub mod Aims
+pub mod AtMost
 pub mod Chances
 pub mod Counted
 pub mod Draws
 pub mod Graph
 pub mod Laws
 pub mod Numbers
+pub mod Plays
 pub mod Reachable
