@@ -1,5 +1,5 @@
 -- The draws of a hand and the places that they lead to, one more at a time.
-use Rattle.std.proofs.Common.{◌≡◌, ℕ, ◌+◌, ◌*◌, ◌<◌, ◌≤◌, true, List, [], ◌∷◌, ◌++◌, map, take, length, Some, Result, Ok, Err, IfOk, refl, sym, ap, subst, ◌∙◌, ⊎_elim, arith, length-append}
+use Rattle.std.proofs.Common.{◌≡◌, ℕ, ◌+◌, ◌*◌, ◌<◌, ◌≤◌, true, max, List, [], ◌∷◌, ◌++◌, map, take, length, Some, Result, Ok, Err, IfOk, refl, sym, ap, subst, ◌∙◌, ⊎_elim, arith, length-append}
 use Rattle.std.proofs.lemmas.Bool.{cases_eq}
 use Rattle.std.proofs.lemmas.List.{get_or_append_left, get_or_push, map_push, take_all}
 use Rattle.std.proofs.lemmas.List.Sums.{sum_by_push}
@@ -72,7 +72,7 @@ rest_whole drawn rest kind is rest_is thirteen = record {
 
 pub record DrawsSoFar (parts : ShapeParts) (copies : List ℕ) (graph : Graph) (draws : List Draw) (number : ℕ) : Type 0 where
   pub before : LeadBefore (length graph.nodes.items) draws
-  pub leads : (value : ShapeParts → ℕ) → draws_value (λ p. value (placed_hand parts graph.hands.keys p)) draws + rest_of (rest_by value parts) copies number ≡ rests_value value parts
+  pub leads : (value : ShapeParts → ℕ) (least : ℕ) → draws_value (λ p. value (placed_hand parts graph.hands.keys p)) least draws + rest_of (rest_by value least parts) copies number ≡ rests_value value least parts
 
 pub no_draws_before : (most : ℕ) → LeadBefore most []
 no_draws_before most at draw low = absurd (omega (arith, low))
@@ -81,24 +81,24 @@ module _ (parts : ShapeParts) (copies : List ℕ) where
   pub draws_init : (graph : Graph) (accepted : List (ℕ × ℕ)) → accepted ≡ pairs_of copies → accepted ≡ accepted_of parts.tiles parts.melds parts.seen → DrawsSoFar parts copies graph [] 0
   draws_init graph accepted e f = record {
     before = no_draws_before (length graph.nodes.items);
-    leads = λ value. omega (arith, rest_all (rest_by value parts) copies, ap (sum_by (rest_by value parts)) (sym e ∙ f));
+    leads = λ value least. omega (arith, rest_all (rest_by value least parts) copies, ap (sum_by (rest_by value least parts)) (sym e ∙ f));
   }
 
   module _ (before after : Graph) (is : IsGraph parts before) (grows : Grows parts before after) (number : ℕ) (low : number < 34) (draws more : List Draw) (so_far : DrawsSoFar parts copies before draws number) where
     more_places : length before.nodes.items ≤ length after.nodes.items
     more_places = omega (arith, grows.more.longer, grows.whole.each, is.each)
 
-    grown_value : (value : ShapeParts → ℕ) → draws_value (λ p. value (placed_hand parts after.hands.keys p)) draws ≡ draws_value (λ p. value (placed_hand parts before.hands.keys p)) draws
-    grown_value value =
-        sym (draws_same (λ p. value (placed_hand parts before.hands.keys p)) (λ p. value (placed_hand parts after.hands.keys p)) (length before.nodes.items) draws so_far.before (λ p small. hands_same parts before.hands.keys after.hands.keys grows.more value p (omega (arith, small, is.each))))
+    grown_value : (value : ShapeParts → ℕ) (least : ℕ) → draws_value (λ p. value (placed_hand parts after.hands.keys p)) least draws ≡ draws_value (λ p. value (placed_hand parts before.hands.keys p)) least draws
+    grown_value value least =
+        sym (draws_same (λ p. value (placed_hand parts before.hands.keys p)) (λ p. value (placed_hand parts after.hands.keys p)) least (length before.nodes.items) draws so_far.before (λ p small. hands_same parts before.hands.keys after.hands.keys grows.more value p (omega (arith, small, is.each))))
 
     module _ (some : 0 < slice_index copies number) (place : ℕ) (place_is : place ≡ number) (drawn : ShapeParts) (drawn_is : drawn ≡ parts_with parts place) (draw : Draw) (live_is : draw.live ≡ slice_index copies number) (rests : List ℕ) (rests_are : draw.rests.items ≡ rests)
         (lead : AreBefore (length after.nodes.items) rests) (are : AreRests after.hands.keys rests drawn) (more_is : more ≡ draws ++ draw ∷ []) where
-      own : (value : ShapeParts → ℕ) → draw_value (λ p. value (placed_hand parts after.hands.keys p)) draw ≡ rest_by value parts (number, slice_index copies number)
-      own value =
-          ap (λ n. n * greatest (λ p. value (placed_hand parts after.hands.keys p)) draw.rests.items) live_is
-          ∙ ap (λ (ps : List ℕ). slice_index copies number * greatest (λ p. value (placed_hand parts after.hands.keys p)) ps) rests_are
-          ∙ ap (λ n. slice_index copies number * n) ((subst (λ (d : ShapeParts). AreRests after.hands.keys rests d) (drawn_is ∙ ap (parts_with parts) place_is) are) value)
+      own : (value : ShapeParts → ℕ) (least : ℕ) → draw_value (λ p. value (placed_hand parts after.hands.keys p)) least draw ≡ rest_by value least parts (number, slice_index copies number)
+      own value least =
+          ap (λ n. n * max (greatest (λ p. value (placed_hand parts after.hands.keys p)) draw.rests.items) least) live_is
+          ∙ ap (λ (ps : List ℕ). slice_index copies number * max (greatest (λ p. value (placed_hand parts after.hands.keys p)) ps) least) rests_are
+          ∙ ap (λ n. slice_index copies number * max n least) ((subst (λ (d : ShapeParts). AreRests after.hands.keys rests d) (drawn_is ∙ ap (parts_with parts) place_is) are) value)
 
       last_before : LeadBefore (length after.nodes.items) (draws ++ draw ∷ [])
       last_before at d small = ⊎_elim here (λ ne. there (omega (arith, small, ne, length-append draws (draw ∷ [])))) (cases_eq at (length draws))
@@ -112,17 +112,17 @@ module _ (parts : ShapeParts) (copies : List ℕ) where
       pub draws_step : DrawsSoFar parts copies after more (number + 1)
       draws_step = subst (λ (ds : List Draw). DrawsSoFar parts copies after ds (number + 1)) (sym more_is) (record {
         before = last_before;
-        leads = λ value. omega (arith, sum_by_push (draw_value (λ p. value (placed_hand parts after.hands.keys p))) draws draw, grown_value value, own value, rest_some (rest_by value parts) copies number low some, so_far.leads value);
+        leads = λ value least. omega (arith, sum_by_push (draw_value (λ p. value (placed_hand parts after.hands.keys p)) least) draws draw, grown_value value least, own value least, rest_some (rest_by value least parts) copies number low some, so_far.leads value least);
       })
 
   pub draws_none : (graph : Graph) (draws : List Draw) (number : ℕ) → number < 34 → slice_index copies number ≤ 0 → DrawsSoFar parts copies graph draws number → DrawsSoFar parts copies graph draws (number + 1)
   draws_none graph draws number low none so_far = record {
     before = so_far.before;
-    leads = λ value. omega (arith, so_far.leads value, rest_none (rest_by value parts) copies number low none);
+    leads = λ value least. omega (arith, so_far.leads value least, rest_none (rest_by value least parts) copies number low none);
   }
 
   pub draws_end : (graph : Graph) (draws : List Draw) (number : ℕ) → number ≡ 34 → DrawsSoFar parts copies graph draws number → LeadTo graph.hands.keys draws parts
-  draws_end graph draws number e so_far value = omega (arith, so_far.leads value, rest_end (rest_by value parts) copies number e)
+  draws_end graph draws number e so_far value least = omega (arith, so_far.leads value least, rest_end (rest_by value least parts) copies number e)
 
 -- ---- the places so far
 

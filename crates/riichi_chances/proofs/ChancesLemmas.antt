@@ -1,12 +1,12 @@
 -- The chances of each number of turns, one number more at a time.
-use Rattle.std.proofs.Common.{◌≡◌, ℕ, ◌+◌, ◌-◌, ◌<◌, ◌≤◌, List, [], ◌∷◌, ◌++◌, map, take, drop, Some, length, length-append, slice_set, get_or-set_same, get_or-set_other, length-set, refl, sym, ap, subst, ◌∙◌, ⊎_elim, arith}
+use Rattle.std.proofs.Common.{◌≡◌, ℕ, ◌+◌, ◌-◌, ◌<◌, ◌≤◌, true, cond, List, [], ◌∷◌, ◌++◌, map, take, drop, Some, length, length-append, slice_set, get_or-set_same, get_or-set_other, length-set, refl, sym, ap, subst, ◌∙◌, ⊎_elim, arith}
 use Rattle.std.proofs.lemmas.Bool.{cases_eq}
 use Rattle.std.proofs.lemmas.List.{append-nil, drop_all, get_or-map, get_or_append_left, get_or_default, get_or_push, length-map, map_push, take_all, take_more}
 use Rattle.std.proofs.lemmas.List.Sums.{sum_by-set}
 use Rattle.std.specs.Option.{option_map}
 use Rattle.std.specs.Prelude.{slice_get, slice_index, slice_index_or}
 use Rattle.riichi_hand.specs.HandParts.{ShapeParts}
-use Rattle.riichi_shape.specs.Accepted.{without_one}
+use Rattle.riichi_shape.specs.Accepted.{with_one, without_one}
 use Rattle.riichi_shape.specs.Choosing.{LeavesLeast}
 use Rattle.riichi_shape.specs.Discards.{discards_of}
 use Rattle.riichi_shape.specs.EveryWinning.{distance_of}
@@ -15,29 +15,37 @@ use Rattle.riichi_shape.specs.declared.discard.Discard.{Discard}
 use Rattle.riichi_shape.specs.declared.discard.ShortDiscard.{ShortDiscard}
 use Rattle.riichi_shape.proofs.Choices.{is_chosen}
 use Rattle.riichi_deeper.specs.Drawn.{parts_without}
-use Rattle.riichi_chances.specs.Chances.{AreAfter, AreAllCounted, AreChances, AreCounted, AreTold, IsTold}
+use Rattle.riichi_chances.specs.Chances.{AreAfter, AreAfterAtMost, AreAllCounted, AreAtMost, AreChances, AreCounted, AreTold, IsNoPlayAbove, IsNoPlayAboveAfter, IsTold, parts_told}
+use Rattle.riichi_chances.specs.Aims.{HasRows, counted_in, numbers_for}
+use Rattle.riichi_chances.specs.AtMost.{counted_most}
 use Rattle.riichi_chances.specs.Counted.{counted_draws, parts_less}
-use Rattle.riichi_chances.specs.Draws.{all_draws, draws, unseen_of}
+use Rattle.riichi_chances.specs.Draws.{all_draws, draws, is_there, unseen_of}
 use Rattle.riichi_chances.specs.Graph.{AreBefore, AreLeft, AreRows, IsPlaceOf, kinds_of, no_rows, placed_hand}
 use Rattle.riichi_chances.specs.Laws.{IsFourteen, IsThirteen}
 use Rattle.riichi_chances.specs.declared.chances.Chances.{Chances}
 use Rattle.riichi_chances.specs.declared.discards.DiscardChances.{DiscardChances}
-use Rattle.riichi_chances.specs.declared.goal.Goal.TheVariants.{Ready, Win}
 use Rattle.riichi_chances.specs.declared.graph.Graph.{Graph}
+use Rattle.riichi_chances.specs.Plays.{Play, draws_by}
+use Rattle.riichi_chances.specs.declared.rows.Column.{Column}
+use Rattle.riichi_chances.specs.declared.rows.Column.TheVariants.{Ready, Win, ReadyAtMost, WinAtMost}
 use Rattle.riichi_chances.specs.declared.rows.Rows.{Rows}
 use Rattle.riichi_chances.proofs.ChanceLemmas.{chance_law}
-use Rattle.riichi_chances.proofs.CountedLemmas.{counted_law, discard_counted, discard_unseen}
+use Rattle.riichi_chances.proofs.CountedLemmas.{counted_law, discard_counted, discard_unseen, knows_left}
 use Rattle.riichi_chances.proofs.CountingLemmas.{best_listed, kinds_more}
 use Rattle.riichi_chances.proofs.NearestLemmas.{less_long, more_long}
+use Rattle.riichi_chances.proofs.PlayLemmas.{NoMore, counted_less, play_law, plays_few}
+use Rattle.riichi_chances.proofs.RowLemmas.{not_won}
 use Rattle.riichi_chances.proofs.UnseenLemmas.{all_turns}
 
 pub record CountedBelow (parts : ShapeParts) (unseen count : ℕ) (chances : Chances) : Type 0 where
   pub ready : (k : ℕ) → k < count → slice_index chances.ready k ≡ counted_draws 1 parts unseen k
   pub win : (k : ℕ) → k < count → slice_index chances.win k ≡ counted_draws 0 parts unseen k
+  pub ready_at_most : (k : ℕ) → k < count → slice_index chances.ready_at_most k ≡ counted_most 1 parts unseen k
+  pub win_at_most : (k : ℕ) → k < count → slice_index chances.win_at_most k ≡ counted_most 0 parts unseen k
   pub all : (k : ℕ) → k < count → slice_index chances.all k ≡ all_draws unseen k
 
 pub none_below : (parts : ShapeParts) (unseen : ℕ) (chances : Chances) → CountedBelow parts unseen 0 chances
-none_below parts unseen chances = record { ready = λ k low. absurd (omega (arith, low)); win = λ k low. absurd (omega (arith, low)); all = λ k low. absurd (omega (arith, low)) }
+none_below parts unseen chances = record { ready = λ k low. absurd (omega (arith, low)); win = λ k low. absurd (omega (arith, low)); ready_at_most = λ k low. absurd (omega (arith, low)); win_at_most = λ k low. absurd (omega (arith, low)); all = λ k low. absurd (omega (arith, low)) }
 
 -- a number is put at the next place
 put_next : (value : ℕ → ℕ) (row after : List ℕ) (n v : ℕ) → n < length row → ((k : ℕ) → k < n → slice_index row k ≡ value k) → v ≡ value n → after ≡ slice_set row n v → (k : ℕ) → k < n + 1 → slice_index after k ≡ value k
@@ -50,22 +58,31 @@ put_next value row after n v long before here is k low = ap (λ (ns : List ℕ).
 pub record AreLong (chances : Chances) : Type 0 where
   pub ready : length chances.ready ≡ 19
   pub win : length chances.win ≡ 19
+  pub ready_at_most : length chances.ready_at_most ≡ 19
+  pub win_at_most : length chances.win_at_most ≡ 19
   pub all : length chances.all ≡ 19
 
 pub told_long : (turns : ℕ) (rows : Rows) (all : ℕ) (before after : Chances) → IsTold turns rows all before after → AreLong before → AreLong after
 told_long turns rows all before after told long = record {
   ready = ap length told.ready ∙ length-set before.ready turns (slice_index rows.ready turns) ∙ long.ready;
   win = ap length told.win ∙ length-set before.win turns (slice_index rows.win turns) ∙ long.win;
+  ready_at_most = ap length told.ready_at_most ∙ length-set before.ready_at_most turns (slice_index rows.ready_at_most turns) ∙ long.ready_at_most;
+  win_at_most = ap length told.win_at_most ∙ length-set before.win_at_most turns (slice_index rows.win_at_most turns) ∙ long.win_at_most;
   all = ap length told.all ∙ length-set before.all turns all ∙ long.all;
 }
 
 pub next_below : (parts : ShapeParts) (unseen n : ℕ) (before after : Chances) (rows : Rows) (all : ℕ) → n < 19 → AreLong before → CountedBelow parts unseen n before →
-    slice_index rows.ready n ≡ counted_draws 1 parts (unseen - (n - n)) n → slice_index rows.win n ≡ counted_draws 0 parts (unseen - (n - n)) n → all ≡ all_draws (unseen - (n - n)) n → IsTold n rows all before after → CountedBelow parts unseen (n + 1) after
-next_below parts unseen n before after rows all small long so_far e f g told = record {
-  ready = put_next (counted_draws 1 parts unseen) before.ready after.ready n (slice_index rows.ready n) (omega (arith, long.ready, small)) so_far.ready (e ∙ ap (λ m. counted_draws 1 parts m n) (all_turns unseen n unseen refl)) told.ready;
-  win = put_next (counted_draws 0 parts unseen) before.win after.win n (slice_index rows.win n) (omega (arith, long.win, small)) so_far.win (f ∙ ap (λ m. counted_draws 0 parts m n) (all_turns unseen n unseen refl)) told.win;
+    HasRows (record { unseen = unseen; turns = n }) parts rows → all ≡ all_draws (unseen - (n - n)) n → IsTold n rows all before after → CountedBelow parts unseen (n + 1) after
+next_below parts unseen n before after rows all small long so_far has g told = record {
+  ready = put_next (counted_draws 1 parts unseen) before.ready after.ready n (slice_index rows.ready n) (omega (arith, long.ready, small)) so_far.ready (of_column Ready) told.ready;
+  win = put_next (counted_draws 0 parts unseen) before.win after.win n (slice_index rows.win n) (omega (arith, long.win, small)) so_far.win (of_column Win) told.win;
+  ready_at_most = put_next (counted_most 1 parts unseen) before.ready_at_most after.ready_at_most n (slice_index rows.ready_at_most n) (omega (arith, long.ready_at_most, small)) so_far.ready_at_most (of_column ReadyAtMost) told.ready_at_most;
+  win_at_most = put_next (counted_most 0 parts unseen) before.win_at_most after.win_at_most n (slice_index rows.win_at_most n) (omega (arith, long.win_at_most, small)) so_far.win_at_most (of_column WinAtMost) told.win_at_most;
   all = put_next (all_draws unseen) before.all after.all n all (omega (arith, long.all, small)) so_far.all (g ∙ ap (λ m. all_draws m n) (all_turns unseen n unseen refl)) told.all;
 }
+  where
+    of_column : (column : Column) → slice_index (numbers_for column rows) n ≡ counted_in column parts unseen n
+    of_column column = has column n (omega arith) ∙ ap (λ m. counted_in column parts m n) (all_turns unseen n unseen refl)
 
 -- ---- the hands at some places, one number of turns more
 
@@ -101,10 +118,10 @@ module _ (places : List ℕ) (unseen count : ℕ) (before after : List Chances) 
   turns_next root hands inside are all_is so_far at chances low =
       let place = slice_index places at in
       next_below (placed_hand root hands place) unseen count (slice_index_or before at chances) (slice_index_or after at chances) (slice_index_or rows place no_rows) number small (long at chances low) (so_far at chances low)
-      (are place (inside at low) Ready count (omega arith)) (are place (inside at low) Win count (omega arith)) all_is (told at no_rows chances low)
+      (are place (inside at low)) all_is (told at no_rows chances low)
 
 pub counted_all : (parts : ShapeParts) (unseen turns count : ℕ) (chances : Chances) → turns < count → CountedBelow parts unseen count chances → AreCounted parts unseen turns chances
-counted_all parts unseen turns count chances more so_far = record { ready = λ k low. so_far.ready k (omega (arith, low, more)); win = λ k low. so_far.win k (omega (arith, low, more)); all = λ k low. so_far.all k (omega (arith, low, more)) }
+counted_all parts unseen turns count chances more so_far = record { ready = λ k low. so_far.ready k (omega (arith, low, more)); win = λ k low. so_far.win k (omega (arith, low, more)); ready_at_most = λ k low. so_far.ready_at_most k (omega (arith, low, more)); win_at_most = λ k low. so_far.win_at_most k (omega (arith, low, more)); all = λ k low. so_far.all k (omega (arith, low, more)) }
 
 -- they are those of the definition
 pub are_chances : (parts place : ShapeParts) (unseen turns : ℕ) (chances : Chances) → IsThirteen parts → ((goal count : ℕ) → draws goal parts count ≡ counted_draws goal place unseen count) → unseen ≡ unseen_of parts → AreCounted place unseen turns chances → AreChances parts turns chances
@@ -124,6 +141,25 @@ are_chances parts place unseen turns chances is law unseen_is are = record {
 
     all : (k : ℕ) → k ≤ turns → slice_index chances.all k ≡ all_draws (unseen_of parts) k
     all k low = are.all k low ∙ ap (λ n. all_draws n k) unseen_is
+
+pub are_at_most : (parts : ShapeParts) (unseen turns : ℕ) (chances : Chances) (n : ℕ) → unseen ≡ n → AreCounted parts unseen turns chances → AreAtMost parts n turns chances
+are_at_most parts unseen turns chances n unseen_is are = record {
+  ready = λ k low. are.ready_at_most k low ∙ ap (λ m. counted_most 1 parts m k) unseen_is;
+  win = λ k low. are.win_at_most k low ∙ ap (λ m. counted_most 0 parts m k) unseen_is;
+}
+
+-- no play has more
+pub no_play_above : (parts place : ShapeParts) (unseen turns : ℕ) (chances : Chances) → ((play : Play) (goal count : ℕ) → draws_by play [] goal parts count ≤ counted_most goal place unseen count) → AreCounted place unseen turns chances → IsNoPlayAbove parts turns chances
+no_play_above parts place unseen turns chances law are = record {
+  ready = λ play k low. omega (arith, are.ready_at_most k low, law play 1 k);
+  win = λ play k low. omega (arith, are.win_at_most k low, law play 0 k);
+  ready_reached = λ k low. omega (arith, are.ready k low, are.ready_at_most k low, counted_less 1 k unseen place);
+  win_reached = λ k low. omega (arith, are.win k low, are.win_at_most k low, counted_less 0 k unseen place);
+}
+
+pub thirteen_plays : (parts place : ShapeParts) (unseen turns : ℕ) (chances : Chances) → IsThirteen parts → place ≡ parts → unseen ≡ unseen_of parts → AreCounted place unseen turns chances → IsNoPlayAbove parts turns chances
+thirteen_plays parts place unseen turns chances is place_is unseen_is =
+    no_play_above parts place unseen turns chances (λ play goal count. omega (arith, play_law play goal parts count is, ap (λ (p : ShapeParts). counted_most goal p unseen count) place_is, ap (λ n. counted_most goal parts n count) unseen_is))
 
 pub of_thirteen : (parts place : ShapeParts) (unseen turns : ℕ) (chances : Chances) → IsThirteen parts → place ≡ parts → unseen ≡ unseen_of parts → AreCounted place unseen turns chances → AreChances parts turns chances
 of_thirteen parts place unseen turns chances is place_is unseen_is =
@@ -152,20 +188,25 @@ pub chances_more : (each after : List DiscardChances) (chances : List Chances) (
 chances_more each after chances at kind none low after_is so_far =
     ap told_chances after_is ∙ map_push (λ (it : DiscardChances). it.chances) each (record { kind = kind; chances = slice_index_or chances at none }) ∙ ap (λ (cs : List Chances). cs ++ slice_index_or chances at none ∷ []) so_far ∙ sym (take_more chances at none low)
 
-pub after_none : (parts : ShapeParts) (turns : ℕ) → AreAfter parts turns []
-after_none parts turns place one low = absurd (omega (arith, low))
+module _ (P : ℕ → Chances → Type 0) where
+  pub after_none : (place : ℕ) (one : DiscardChances) → place < 0 → P (slice_index_or [] place one).kind (slice_index_or [] place one).chances
+  after_none place one low = absurd (omega (arith, low))
 
-pub after_more : (parts rest : ShapeParts) (turns : ℕ) (each after : List DiscardChances) (one : DiscardChances) → AreAfter parts turns each → rest ≡ parts_without parts one.kind → AreChances rest turns one.chances → after ≡ each ++ one ∷ [] → AreAfter parts turns after
-after_more parts rest turns each after one so_far rest_is are after_is = subst (AreAfter parts turns) (sym after_is) all_of
-  where
-    all_of : AreAfter parts turns (each ++ one ∷ [])
-    all_of p it low = ⊎_elim here (λ ne. other (omega (arith, low, ne, length-append each (one ∷ [])))) (cases_eq p (length each))
-      where
-        other : p < length each → AreChances (parts_without parts (slice_index_or (each ++ one ∷ []) p it).kind) turns (slice_index_or (each ++ one ∷ []) p it).chances
-        other less = subst (λ (x : DiscardChances). AreChances (parts_without parts x.kind) turns x.chances) (sym (get_or_append_left each (one ∷ []) it p less)) (so_far p it less)
+  pub after_more : (each after : List DiscardChances) (one : DiscardChances) → ((place : ℕ) (it : DiscardChances) → place < length each → P (slice_index_or each place it).kind (slice_index_or each place it).chances) → P one.kind one.chances → after ≡ each ++ one ∷ [] → (place : ℕ) (it : DiscardChances) → place < length after → P (slice_index_or after place it).kind (slice_index_or after place it).chances
+  after_more each after one so_far are after_is = subst (λ (all : List DiscardChances). (place : ℕ) (it : DiscardChances) → place < length all → P (slice_index_or all place it).kind (slice_index_or all place it).chances) (sym after_is) all_of
+    where
+      all_of : (place : ℕ) (it : DiscardChances) → place < length (each ++ one ∷ []) → P (slice_index_or (each ++ one ∷ []) place it).kind (slice_index_or (each ++ one ∷ []) place it).chances
+      all_of p it low = ⊎_elim here (λ ne. other (omega (arith, low, ne, length-append each (one ∷ [])))) (cases_eq p (length each))
+        where
+          other : p < length each → P (slice_index_or (each ++ one ∷ []) p it).kind (slice_index_or (each ++ one ∷ []) p it).chances
+          other less = subst (λ (x : DiscardChances). P x.kind x.chances) (sym (get_or_append_left each (one ∷ []) it p less)) (so_far p it less)
 
-        here : p ≡ length each → AreChances (parts_without parts (slice_index_or (each ++ one ∷ []) p it).kind) turns (slice_index_or (each ++ one ∷ []) p it).chances
-        here e = subst (λ (x : DiscardChances). AreChances (parts_without parts x.kind) turns x.chances) (sym (get_or_push each one it p (sym e))) (subst (λ (q : ShapeParts). AreChances q turns one.chances) rest_is are)
+          here : p ≡ length each → P (slice_index_or (each ++ one ∷ []) p it).kind (slice_index_or (each ++ one ∷ []) p it).chances
+          here e = subst (λ (x : DiscardChances). P x.kind x.chances) (sym (get_or_push each one it p (sym e))) are
+
+pub told_alone : (parts rest : ShapeParts) (kind turns : ℕ) (chances : Chances) → is_there 0 parts ≡ true → rest ≡ parts_without parts kind → AreAtMost rest (unseen_of rest) turns chances → AreAtMost (parts_told parts kind) (unseen_of (parts_without parts kind)) turns chances
+told_alone parts rest kind turns chances won rest_is =
+    λ are. subst (λ (p : ShapeParts). AreAtMost p (unseen_of (parts_without parts kind)) turns chances) (sym (ap (λ t. cond t (parts_without parts kind) (parts_less parts kind)) won)) (subst (λ (p : ShapeParts). AreAtMost p (unseen_of p) turns chances) rest_is are)
 
 -- ---- all discards of fourteen tiles that are not complete
 
@@ -184,6 +225,17 @@ module _ (drawn : ShapeParts) (is : IsFourteen drawn) (far : 0 < distance_of dra
         are_chances (parts_without drawn kind) (parts_less drawn kind) unseen turns chances whole
         (λ goal count. discard_counted goal count kind drawn is far best.is_kind (is_chosen drawn.tiles drawn.melds kind best) ∙ ap (λ n. counted_draws goal (parts_less drawn kind) n count) (sym unseen_is)) (unseen_is ∙ discard_unseen drawn is kind best.is_kind best.held)
 
+    plays_after : (unseen turns : ℕ) (chances : Chances) → unseen ≡ unseen_of drawn → AreCounted (parts_less drawn kind) unseen turns chances → IsNoPlayAbove (parts_without drawn kind) turns chances
+    plays_after unseen turns chances unseen_is =
+        no_play_above (parts_without drawn kind) (parts_less drawn kind) unseen turns chances
+        (λ play goal count. plays_few drawn.melds is.melded play goal count [] (without_one drawn.tiles kind) (with_one drawn.seen kind) drawn.seen unseen
+        (knows_left drawn.melds is.melded NoMore drawn.tiles drawn.seen drawn.seen is.each_kind is.each_seen is.each_seen is.fourteen far kind best.is_kind (is_chosen drawn.tiles drawn.melds kind best) (λ other small lacked. omega arith)) (unseen_is ∙ discard_unseen drawn is kind best.is_kind best.held))
+
+    most_after : (unseen turns : ℕ) (chances : Chances) → unseen ≡ unseen_of drawn → AreCounted (parts_less drawn kind) unseen turns chances → AreAtMost (parts_told drawn kind) (unseen_of (parts_without drawn kind)) turns chances
+    most_after unseen turns chances unseen_is are =
+        subst (λ (p : ShapeParts). AreAtMost p (unseen_of (parts_without drawn kind)) turns chances) (sym (ap (λ t. cond t (parts_without drawn kind) (parts_less drawn kind)) (not_won (distance_of drawn.tiles drawn.melds) far)))
+        (are_at_most (parts_less drawn kind) unseen turns chances (unseen_of (parts_without drawn kind)) (unseen_is ∙ discard_unseen drawn is kind best.is_kind best.held) are)
+
   module _ (discards : List Discard) (discards_is : discards ≡ discards_of drawn.tiles drawn.melds drawn.seen) (hands : List (List ℕ)) (places : List ℕ) (left : AreLeft hands places drawn.tiles (kinds_of discards)) where
     pub as_many : length places ≡ length discards
     as_many = sym (length-map places (λ (place : ℕ). slice_index_or hands place [])) ∙ ap length left ∙ length-map (kinds_of discards) (without_one drawn.tiles) ∙ length-map discards (λ (discard : Discard). discard.kind)
@@ -196,17 +248,29 @@ module _ (drawn : ShapeParts) (is : IsFourteen drawn) (far : 0 < distance_of dra
         with_tiles : List ℕ → ShapeParts
         with_tiles tiles = record { tiles = tiles; melds = drawn.melds; seen = drawn.seen }
 
-    pub after_all : (unseen turns : ℕ) (chances : List Chances) (each : List DiscardChances) → unseen ≡ unseen_of drawn → AreAllCounted drawn hands places unseen turns chances → told_kinds each ≡ kinds_of discards → told_chances each ≡ chances → AreAfter drawn turns each
-    after_all unseen turns chances each unseen_is counted kinds_are chances_are place one low = subst (λ k. AreChances (parts_without drawn k) turns (slice_index_or each place one).chances) (sym kind_is)
-        (of_discard (slice_index (kinds_of discards) place) (best_listed drawn discards place discards_is inside) unseen turns (slice_index_or each place one).chances unseen_is
-        (subst (λ (it : Chances). AreCounted (parts_less drawn (slice_index (kinds_of discards) place)) unseen turns it) (sym chance_is)
-        (subst (λ (p : ShapeParts). AreCounted p unseen turns (slice_index_or chances place one.chances)) (hand_left place inside) (counted place one.chances (omega (arith, inside, as_many))))))
-      where
-        inside : place < length discards
-        inside = omega (arith, low, length-map each (λ (it : DiscardChances). it.kind), ap length kinds_are, length-map discards (λ (discard : Discard). discard.kind))
+    module _ (unseen turns : ℕ) (chances : List Chances) (each : List DiscardChances) (unseen_is : unseen ≡ unseen_of drawn) (counted : AreAllCounted drawn hands places unseen turns chances) (kinds_are : told_kinds each ≡ kinds_of discards) (chances_are : told_chances each ≡ chances)
+        (P : ℕ → Chances → Type 0) (of_one : (kind : ℕ) → LeavesLeast drawn.tiles drawn.melds kind → (one : Chances) → AreCounted (parts_less drawn kind) unseen turns one → P kind one) where
+      pub each_after : (place : ℕ) (one : DiscardChances) → place < length each → P (slice_index_or each place one).kind (slice_index_or each place one).chances
+      each_after place one low = subst (λ k. P k (slice_index_or each place one).chances) (sym kind_is)
+          (of_one (slice_index (kinds_of discards) place) (best_listed drawn discards place discards_is inside) (slice_index_or each place one).chances
+          (subst (λ (it : Chances). AreCounted (parts_less drawn (slice_index (kinds_of discards) place)) unseen turns it) (sym chance_is)
+          (subst (λ (p : ShapeParts). AreCounted p unseen turns (slice_index_or chances place one.chances)) (hand_left place inside) (counted place one.chances (omega (arith, inside, as_many))))))
+        where
+          inside : place < length discards
+          inside = omega (arith, low, length-map each (λ (it : DiscardChances). it.kind), ap length kinds_are, length-map discards (λ (discard : Discard). discard.kind))
 
-        kind_is : (slice_index_or each place one).kind ≡ slice_index (kinds_of discards) place
-        kind_is = sym (get_or-map (λ (it : DiscardChances). it.kind) each place one 0 low) ∙ ap (λ (ks : List ℕ). slice_index ks place) kinds_are
+          kind_is : (slice_index_or each place one).kind ≡ slice_index (kinds_of discards) place
+          kind_is = sym (get_or-map (λ (it : DiscardChances). it.kind) each place one 0 low) ∙ ap (λ (ks : List ℕ). slice_index ks place) kinds_are
 
-        chance_is : (slice_index_or each place one).chances ≡ slice_index_or chances place one.chances
-        chance_is = sym (get_or-map (λ (it : DiscardChances). it.chances) each place one one.chances low) ∙ ap (λ (cs : List Chances). slice_index_or cs place one.chances) chances_are
+          chance_is : (slice_index_or each place one).chances ≡ slice_index_or chances place one.chances
+          chance_is = sym (get_or-map (λ (it : DiscardChances). it.chances) each place one one.chances low) ∙ ap (λ (cs : List Chances). slice_index_or cs place one.chances) chances_are
+
+    module _ (unseen turns : ℕ) (chances : List Chances) (each : List DiscardChances) (unseen_is : unseen ≡ unseen_of drawn) (counted : AreAllCounted drawn hands places unseen turns chances) (kinds_are : told_kinds each ≡ kinds_of discards) (chances_are : told_chances each ≡ chances) where
+      pub after_all : AreAfter drawn turns each
+      after_all = each_after unseen turns chances each unseen_is counted kinds_are chances_are (λ kind. AreChances (parts_without drawn kind) turns) (λ kind best one. of_discard kind best unseen turns one unseen_is)
+
+      pub after_most : AreAfterAtMost drawn turns each
+      after_most = each_after unseen turns chances each unseen_is counted kinds_are chances_are (λ kind. AreAtMost (parts_told drawn kind) (unseen_of (parts_without drawn kind)) turns) (λ kind best one. most_after kind best unseen turns one unseen_is)
+
+      pub after_plays : IsNoPlayAboveAfter drawn turns each
+      after_plays = each_after unseen turns chances each unseen_is counted kinds_are chances_are (λ kind. IsNoPlayAbove (parts_without drawn kind) turns) (λ kind best one. plays_after kind best unseen turns one unseen_is)

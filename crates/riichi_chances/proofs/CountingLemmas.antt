@@ -1,9 +1,10 @@
 -- The numbers of a hand by the numbers of those that it leads to.
 use Rattle.std.proofs.Common.{◌≡◌, ℕ, zero, suc, ◌+◌, ◌-◌, ◌*◌, ◌<◌, ◌≤◌, Bool, true, false, cond, Contains, max, inl, inr, List, [], ◌∷◌, ◌++◌, map, take, Some, None, length, refl, sym, ap, subst, ◌∙◌, arith}
 use Rattle.std.proofs.lemmas.Bool.{and_parts, leb-false, lt-ltb, ltb-true}
+use Rattle.std.proofs.lemmas.List.Sums.{sum_by-cons}
 use Rattle.std.specs.List.{filter}
 use Rattle.std.specs.Option.{option_map}
-use Rattle.std.specs.Prelude.{nat_le, nat_lt, replicate, slice_get, slice_index, slice_index_or}
+use Rattle.std.specs.Prelude.{nat_le, nat_lt, slice_get, slice_index, slice_index_or, sum_by}
 use Rattle.riichi_hand.specs.HandParts.{ShapeParts}
 use Rattle.riichi_tiles.specs.Melds.{every_kind}
 use Rattle.riichi_tiles.specs.declared.meld.Meld.{Meld}
@@ -19,16 +20,24 @@ use Rattle.riichi_shape.specs.declared.discard.ShortDiscard.{ShortDiscard}
 use Rattle.riichi_shape.proofs.Choices.{discards_are}
 use Rattle.riichi_deeper.proofs.DeeperLemmas.{has_copies, pair_at}
 use Rattle.riichi_deeper.specs.Drawn.{parts_with}
-use Rattle.riichi_chances.specs.Aims.{Aim, HasCounts, lack_of, draws_at}
-use Rattle.riichi_chances.specs.Counted.{accepts, counted_draws, counted_rest, counted_with, accepted_draws, parts_less}
+use Rattle.riichi_chances.specs.Aims.{Aim, HasCounts, counted_in, draws_at, lack_of, least_of}
+use Rattle.riichi_chances.specs.AtMost.{accepted_most, counted_most}
+use Rattle.riichi_chances.specs.Bests.{Follow}
+use Rattle.riichi_chances.specs.Counted.{accepts, counted_by, counted_draws, counted_rest, counted_with, accepted_draws, parts_less}
 use Rattle.riichi_chances.specs.Draws.{all_draws, greatest, is_there}
 use Rattle.riichi_chances.specs.Graph.{AreLeft, AreRests, kinds_of}
 use Rattle.riichi_chances.specs.Numbers.{most_draws, unseen_at}
-use Rattle.riichi_chances.proofs.BoundLemmas.{all_few, counted_few, gains_few, times_few}
+use Rattle.riichi_chances.specs.declared.rows.Column.{Column}
+use Rattle.riichi_chances.specs.declared.rows.Column.TheVariants.{Ready, Win, ReadyAtMost, WinAtMost}
+use Rattle.riichi_chances.proofs.BoundLemmas.{all_few, counted_few, pairs_few, times_few, upper_few, with_few}
 use Rattle.riichi_chances.proofs.SpanLemmas.{all_none, one_turn_more}
 
-abbrev pub gains_at : Aim → ShapeParts → ℕ → ℕ
-gains_at aim parts left = accepted_draws (lack_of aim.goal) (unseen_at aim.span left) left (draws_at aim left) parts
+-- the draws that begin with an accepted kind, where the hand itself has so many
+abbrev pub gains_in : Column → ℕ → ℕ → ShapeParts → ℕ → ℕ
+gains_in column unseen left parts own = sum_by (λ (pair : ℕ × ℕ). pair.1 * max (counted_with (lack_of column) unseen left (λ rest. counted_in column rest unseen left) (parts_with parts pair.0)) (least_of column own)) (accepts parts)
+
+abbrev pub gains_at : Aim → ShapeParts → ℕ → ℕ → ℕ
+gains_at aim parts left own = gains_in aim.column (unseen_at aim.span left) left parts own
 
 -- ---- a hand that is there
 
@@ -37,6 +46,18 @@ unfolding counted_draws
 near_counted goal parts unseen zero near = ap (λ t. cond t 1 0) near ∙ sym (all_none unseen)
 near_counted goal parts unseen (suc left) near =
     ap (λ t. cond t (all_draws unseen (suc left)) ((unseen - live_in (accepts parts)) * counted_draws goal parts (unseen - 1) left + accepted_draws goal (unseen - 1) left (λ rest. counted_draws goal rest (unseen - 1) left) parts)) near
+
+near_most : (goal : ℕ) (parts : ShapeParts) (unseen left : ℕ) → is_there goal parts ≡ true → counted_most goal parts unseen left ≡ all_draws unseen left
+unfolding counted_most
+near_most goal parts unseen zero near = ap (λ t. cond t 1 0) near ∙ sym (all_none unseen)
+near_most goal parts unseen (suc left) near =
+    ap (λ t. cond t (all_draws unseen (suc left)) ((unseen - live_in (accepts parts)) * counted_most goal parts (unseen - 1) left + accepted_most goal (unseen - 1) left (λ rest. counted_most goal rest (unseen - 1) left) parts)) near
+
+pub near_in : (column : Column) (parts : ShapeParts) (unseen left : ℕ) → is_there (lack_of column) parts ≡ true → counted_in column parts unseen left ≡ all_draws unseen left
+near_in Ready = near_counted 1
+near_in Win = near_counted 0
+near_in ReadyAtMost = near_most 1
+near_in WinAtMost = near_most 0
 
 pub near_with : (goal unseen left : ℕ) (value : ShapeParts → ℕ) (drawn : ShapeParts) → is_there goal drawn ≡ true → counted_with goal unseen left value drawn ≡ all_draws unseen left
 unfolding counted_with
@@ -57,28 +78,84 @@ unfolding counted_draws
 far_more goal parts unseen left far =
     ap (λ t. cond t (all_draws unseen (suc left)) ((unseen - live_in (accepts parts)) * counted_draws goal parts (unseen - 1) left + accepted_draws goal (unseen - 1) left (λ rest. counted_draws goal rest (unseen - 1) left) parts)) far
 
-module _ (aim : Aim) (parts : ShapeParts) (far : is_there (lack_of aim.goal) parts ≡ false) (live : ℕ) (live_is : live ≡ live_in (accepts parts)) (begun : ℕ → ℕ) (row : List ℕ) (are_gains : (left : ℕ) → left < aim.span.turns → begun left ≡ gains_at aim parts left) (none : slice_index row 0 ≡ 0)
-    (more : (left : ℕ) → left < aim.span.turns → slice_index row (left + 1) ≡ (unseen_at aim.span (left + 1) - live) * slice_index row left + begun left) where
-  step : (left : ℕ) → left < aim.span.turns → slice_index row left ≡ draws_at aim left parts → slice_index row (left + 1) ≡ counted_draws (lack_of aim.goal) parts (unseen_at aim.span (left + 1)) (suc left)
+most_none_yet : (goal : ℕ) (parts : ShapeParts) (unseen : ℕ) → is_there goal parts ≡ false → counted_most goal parts unseen 0 ≡ 0
+unfolding counted_most
+most_none_yet goal parts unseen far = ap (λ t. cond t 1 0) far
+
+none_in : (column : Column) (parts : ShapeParts) (unseen : ℕ) → is_there (lack_of column) parts ≡ false → counted_in column parts unseen 0 ≡ 0
+none_in Ready = far_none 1
+none_in Win = far_none 0
+none_in ReadyAtMost = most_none_yet 1
+none_in WinAtMost = most_none_yet 0
+
+pairs_same : (f g : ℕ × ℕ → ℕ) → ((pair : ℕ × ℕ) → f pair ≡ g pair) → (pairs : List (ℕ × ℕ)) → sum_by f pairs ≡ sum_by g pairs
+pairs_same f g same [] = refl
+pairs_same f g same (pair ∷ pairs) = omega (arith, sum_by-cons f pair pairs, sum_by-cons g pair pairs, same pair, pairs_same f g same pairs)
+
+reached_more : (goal : ℕ) (parts : ShapeParts) (unseen left : ℕ) → is_there goal parts ≡ false → counted_draws goal parts unseen (suc left)
+    ≡ (unseen - live_in (accepts parts)) * counted_draws goal parts (unseen - 1) left + sum_by (λ (pair : ℕ × ℕ). pair.1 * max (counted_with goal (unseen - 1) left (λ rest. counted_draws goal rest (unseen - 1) left) (parts_with parts pair.0)) 0) (accepts parts)
+unfolding accepted_draws
+reached_more goal parts unseen left far =
+    far_more goal parts unseen left far
+    ∙ ap (λ n. (unseen - live_in (accepts parts)) * counted_draws goal parts (unseen - 1) left + n)
+    (pairs_same (counted_by goal (unseen - 1) left value parts) (λ (pair : ℕ × ℕ). pair.1 * max (counted_with goal (unseen - 1) left value (parts_with parts pair.0)) 0) (λ pair. ap (λ n. pair.1 * n) (no_least (counted_with goal (unseen - 1) left value (parts_with parts pair.0)))) (accepts parts))
+  where
+    value : ShapeParts → ℕ
+    value rest = counted_draws goal rest (unseen - 1) left
+
+    no_least : (n : ℕ) → n ≡ max n 0
+    no_least n = omega arith
+
+upper_more : (goal : ℕ) (parts : ShapeParts) (unseen left : ℕ) → is_there goal parts ≡ false → counted_most goal parts unseen (suc left)
+    ≡ (unseen - live_in (accepts parts)) * counted_most goal parts (unseen - 1) left + sum_by (λ (pair : ℕ × ℕ). pair.1 * max (counted_with goal (unseen - 1) left (λ rest. counted_most goal rest (unseen - 1) left) (parts_with parts pair.0)) (counted_most goal parts (unseen - 1) left)) (accepts parts)
+unfolding counted_most accepted_most
+upper_more goal parts unseen left far =
+    ap (λ t. cond t (all_draws unseen (suc left)) ((unseen - live_in (accepts parts)) * counted_most goal parts (unseen - 1) left + accepted_most goal (unseen - 1) left (λ rest. counted_most goal rest (unseen - 1) left) parts)) far
+
+more_in : (column : Column) (parts : ShapeParts) (unseen left : ℕ) → is_there (lack_of column) parts ≡ false → counted_in column parts unseen (suc left) ≡ (unseen - live_in (accepts parts)) * counted_in column parts (unseen - 1) left + gains_in column (unseen - 1) left parts (counted_in column parts (unseen - 1) left)
+more_in Ready = reached_more 1
+more_in Win = reached_more 0
+more_in ReadyAtMost = upper_more 1
+more_in WinAtMost = upper_more 0
+
+module _ (aim : Aim) (parts : ShapeParts) (far : is_there (lack_of aim.column) parts ≡ false) (live : ℕ) (live_is : live ≡ live_in (accepts parts)) (begun : ℕ → ℕ → ℕ) (row : List ℕ) (are_gains : (left own : ℕ) → left < aim.span.turns → begun left own ≡ gains_at aim parts left own) (follows : Follow aim.span live begun row) where
+  step : (left : ℕ) → left < aim.span.turns → slice_index row left ≡ draws_at aim left parts → slice_index row (left + 1) ≡ counted_in aim.column parts (unseen_at aim.span (left + 1)) (suc left)
   step left low so_far =
-      more left low ∙ ap (λ n. (unseen_at aim.span (left + 1) - n) * slice_index row left + begun left) live_is
-      ∙ ap (λ n. (unseen_at aim.span (left + 1) - live_in (accepts parts)) * n + begun left) so_far
-      ∙ ap (λ n. (unseen_at aim.span (left + 1) - live_in (accepts parts)) * draws_at aim left parts + n) (are_gains left low)
-      ∙ ap (λ n. (unseen_at aim.span (left + 1) - live_in (accepts parts)) * counted_draws (lack_of aim.goal) parts n left + accepted_draws (lack_of aim.goal) n left (λ rest. counted_draws (lack_of aim.goal) rest n left) parts) (sym (one_turn_more aim.span left low))
-      ∙ sym (far_more (lack_of aim.goal) parts (unseen_at aim.span (left + 1)) left far)
+      follows.more left low ∙ ap (λ n. (unseen_at aim.span (left + 1) - n) * slice_index row left + begun left (slice_index row left)) live_is
+      ∙ ap (λ n. (unseen_at aim.span (left + 1) - live_in (accepts parts)) * slice_index row left + n) (are_gains left (slice_index row left) low)
+      ∙ ap (λ n. (unseen_at aim.span (left + 1) - live_in (accepts parts)) * n + gains_at aim parts left n) so_far
+      ∙ ap (λ n. (unseen_at aim.span (left + 1) - live_in (accepts parts)) * counted_in aim.column parts n left + gains_in aim.column n left parts (counted_in aim.column parts n left)) (sym (one_turn_more aim.span left low))
+      ∙ sym (more_in aim.column parts (unseen_at aim.span (left + 1)) left far)
 
   pub followed : HasCounts aim parts row
-  followed zero low = none ∙ sym (far_none (lack_of aim.goal) parts (unseen_at aim.span 0) far)
+  followed zero low = follows.none ∙ sym (none_in aim.column parts (unseen_at aim.span 0) far)
   followed (suc left) low =
-      ap (slice_index row) (one left) ∙ step left (omega arith) (followed left (omega arith)) ∙ ap (λ n. counted_draws (lack_of aim.goal) parts (unseen_at aim.span n) (suc left)) (sym (one left))
+      ap (slice_index row) (one left) ∙ step left (omega arith) (followed left (omega arith)) ∙ ap (λ n. counted_in aim.column parts (unseen_at aim.span n) (suc left)) (sym (one left))
     where
       one : (n : ℕ) → suc n ≡ n + 1
       one n = omega arith
 
+few_in : (column : Column) (turns unseen : ℕ) (parts : ShapeParts) → unseen ≤ 136 → counted_in column parts unseen turns ≤ most_draws turns
+few_in Ready = counted_few 1
+few_in Win = counted_few 0
+few_in ReadyAtMost = upper_few 1
+few_in WinAtMost = upper_few 0
+
+pub least_few : (column : Column) (own : ℕ) → least_of column own ≤ own
+least_few Ready own = omega arith
+least_few Win own = omega arith
+least_few ReadyAtMost own = omega arith
+least_few WinAtMost own = omega arith
+
 -- so few draws begin with an accepted kind
-pub gains_bound : (aim : Aim) (parts : ShapeParts) (live : ℕ) → aim.span.unseen ≤ 136 → live_in (accepts parts) ≤ live → (left : ℕ) → accepted_draws (lack_of aim.goal) (unseen_at aim.span left) left (draws_at aim left) parts ≤ live * most_draws left
-gains_bound aim parts live few some left =
-    omega (arith, gains_few (lack_of aim.goal) (unseen_at aim.span left) left (most_draws left) (draws_at aim left) (all_few (unseen_at aim.span left) left (omega (arith, few))) (λ rest. counted_few (lack_of aim.goal) left (unseen_at aim.span left) rest (omega (arith, few))) parts, times_few (live_in (accepts parts)) live (most_draws left) (most_draws left) some (omega arith))
+pub gains_bound : (aim : Aim) (parts : ShapeParts) (live : ℕ) → aim.span.unseen ≤ 136 → live_in (accepts parts) ≤ live → (left own : ℕ) → own ≤ most_draws left → gains_at aim parts left own ≤ live * most_draws left
+gains_bound aim parts live few some left own small =
+    omega (
+      arith,
+      pairs_few (λ kind. max (counted_with (lack_of aim.column) (unseen_at aim.span left) left (draws_at aim left) (parts_with parts kind)) (least_of aim.column own)) (most_draws left)
+          (λ kind. omega (arith, with_few (lack_of aim.column) (unseen_at aim.span left) left (most_draws left) (draws_at aim left) (all_few (unseen_at aim.span left) left (omega (arith, few))) (λ rest. few_in aim.column left (unseen_at aim.span left) rest (omega (arith, few))) (parts_with parts kind), least_few aim.column own, small)) (accepts parts),
+      times_few (live_in (accepts parts)) live (most_draws left) (most_draws left) some (omega arith),
+    )
 
 -- ---- the discards of a list
 
@@ -184,13 +261,6 @@ pub never_past : (discards : List Discard) (place : ℕ) → place < length disc
 never_past [] place low e = omega arith
 never_past (discard ∷ rest) zero low e = cc
 never_past (discard ∷ rest) (suc place) low e = never_past rest place (omega arith) e
-
--- ---- numbers that are nought
-
-pub zero_at : (n k : ℕ) → slice_index (replicate n 0) k ≡ 0
-zero_at zero k = refl
-zero_at (suc n) zero = refl
-zero_at (suc n) (suc k) = zero_at n k
 
 -- a kind of the list is accepted
 pub drawn_accepted : (parts : ShapeParts) (copies : List ℕ) (number : ℕ) → pairs_of copies ≡ accepted_of parts.tiles parts.melds parts.seen → number < 34 → 0 < slice_index copies number → is_accepted parts.tiles parts.melds parts.seen number ≡ true

@@ -43,11 +43,11 @@ greatest_drop f places i p low e =
     one : (n : ℕ) → suc n ≡ n + 1
     one n = omega arith
 
-pub draws_same : (f g : ℕ → ℕ) (most : ℕ) (draws : List Draw) → LeadBefore most draws → ((p : ℕ) → p < most → f p ≡ g p) → draws_value f draws ≡ draws_value g draws
-draws_same f g most [] before same = refl
-draws_same f g most (d ∷ ds) before same =
-    sum_by-cons (draw_value f) d ds ∙ ap (λ n. d.live * n + draws_value f ds) (greatest_places f g most d.rests.items (before 0 d (omega arith)) same)
-    ∙ ap (λ n. draw_value g d + n) (draws_same f g most ds (λ at e low. before (suc at) e (omega (arith, low))) same) ∙ sym (sum_by-cons (draw_value g) d ds)
+pub draws_same : (f g : ℕ → ℕ) (least most : ℕ) (draws : List Draw) → LeadBefore most draws → ((p : ℕ) → p < most → f p ≡ g p) → draws_value f least draws ≡ draws_value g least draws
+draws_same f g least most [] before same = refl
+draws_same f g least most (d ∷ ds) before same =
+    sum_by-cons (draw_value f least) d ds ∙ ap (λ n. d.live * max n least + draws_value f least ds) (greatest_places f g most d.rests.items (before 0 d (omega arith)) same)
+    ∙ ap (λ n. draw_value g least d + n) (draws_same f g least most ds (λ at e low. before (suc at) e (omega (arith, low))) same) ∙ sym (sum_by-cons (draw_value g least) d ds)
 
 -- ---- more hands
 
@@ -64,8 +64,8 @@ pub before_grown : (most more : ℕ) (draws : List Draw) → most ≤ more → L
 before_grown most more draws few before at draw low k small = omega (arith, before at draw low k small, few)
 
 pub leads_grown : (parts : ShapeParts) (before after : List (List ℕ)) (most : ℕ) (draws : List Draw) → IsMore before after → most ≤ length before → LeadBefore most draws → LeadTo before draws parts → LeadTo after draws parts
-leads_grown parts before after most draws more few lead to value =
-    sym (draws_same (λ p. value (placed_hand parts before p)) (λ p. value (placed_hand parts after p)) most draws lead (λ p low. hands_same parts before after more value p (omega (arith, low, few)))) ∙ to value
+leads_grown parts before after most draws more few lead to value least =
+    sym (draws_same (λ p. value (placed_hand parts before p)) (λ p. value (placed_hand parts after p)) least most draws lead (λ p low. hands_same parts before after more value p (omega (arith, low, few)))) ∙ to value least
 
 pub node_grown : (before after : List (List ℕ)) (place : ℕ) (parts : ShapeParts) (node : Node) → IsMore before after → place ≤ length before → IsNode before place parts node → IsNode after place parts node
 node_grown before after place parts node more few is =

@@ -1,5 +1,5 @@
 -- No play that keeps only what brings the hand nearer has more draws than the upper end.
-use Rattle.std.proofs.Common.{◌≡◌, ℕ, zero, suc, ◌+◌, ◌-◌, ◌*◌, ◌<◌, ◌≤◌, Bool, true, false, cond, max, Option, Some, None, List, [], ◌∷◌, length, refl, sym, ap, ◌∙◌, ⊎_elim, arith}
+use Rattle.std.proofs.Common.{◌≡◌, ℕ, zero, suc, ◌+◌, ◌-◌, ◌*◌, ◌<◌, ◌≤◌, Bool, true, false, cond, Option, Some, None, List, [], ◌∷◌, length, refl, sym, ap, ◌∙◌, ⊎_elim, arith}
 use Rattle.std.proofs.lemmas.Bool.{and_parts, cases_lt, leb-false, lt-ltb, ltb-true}
 use Rattle.std.proofs.lemmas.List.{get_or_past}
 use Rattle.std.proofs.lemmas.List.Sums.{sum_by-cons}
@@ -9,7 +9,7 @@ use Rattle.riichi_hand.specs.HandParts.{ShapeParts}
 use Rattle.riichi_tiles.specs.Melds.{every_kind, tiles}
 use Rattle.riichi_tiles.specs.Tiles.{has_tile}
 use Rattle.riichi_tiles.specs.declared.meld.Meld.{Meld}
-use Rattle.riichi_tiles.proofs.Members.{IsIn, in-filter, in-range}
+use Rattle.riichi_tiles.proofs.Members.{in-filter, in-range}
 use Rattle.riichi_rows.proofs.Spread.{spread, sum_range}
 use Rattle.riichi_shape.specs.Accepted.{is_accepted, live_of, with_one, without_one}
 use Rattle.riichi_shape.specs.Discards.{is_best, is_discard}
@@ -22,7 +22,7 @@ use Rattle.riichi_chances.specs.Draws.{all_draws, greatest, is_there, parts_pass
 use Rattle.riichi_chances.specs.Laws.{MostLaw, PlayLaw}
 use Rattle.riichi_chances.specs.Plays.{Play, draws_by, parts_chosen, parts_played, played_behind}
 use Rattle.riichi_chances.proofs.BoundLemmas.{times_few}
-use Rattle.riichi_chances.proofs.CountedLemmas.{KnowsLacked, accepted_sum, counted_law, is_lacked, no_nearer, parts_of, passed, passed_unseen, thrown_left, thrown_unseen}
+use Rattle.riichi_chances.proofs.CountedLemmas.{KnowsLacked, accepted_sum, counted_law, is_lacked, no_nearer, parts_of, passed_unseen, thrown_left, thrown_unseen}
 use Rattle.riichi_chances.proofs.CountingLemmas.{far_with, near_with}
 use Rattle.riichi_chances.proofs.LiveDraws.{passed_live}
 use Rattle.riichi_chances.proofs.NearestLemmas.{more_long}
@@ -55,7 +55,7 @@ without_most total few all common some less = ⊎_elim (λ fewer. omega (arith, 
 
 -- ---- two accounts of what is seen, of which one has no more live copies of what is lacked
 
-abbrev NoMore : ℕ → ℕ → Type 0
+abbrev pub NoMore : ℕ → ℕ → Type 0
 NoMore a b = a ≤ b
 
 one_less_few : (a b : ℕ) → NoMore a b → NoMore (a - 1) (b - 1)
@@ -122,8 +122,12 @@ module _ (melds : List Meld) (melded : (kind : ℕ) → kind < 34 → tiles meld
               let not_there : 0 < distance_of (with_one hand kind) melds = omega (arith, leb-false (distance_of (with_one hand kind) melds) goal not) in
               let rest = later (kind ∷ drawn) (without_one (with_one hand kind) thrown) (with_one seen thrown) told (n - 1) (thrown_left melds melded NoMore one_less_few hand seen told know kind inside some nearer not_there thrown low best)
               (one_fewer (unseen_of (parts_without (parts_with parts kind) thrown)) (thrown_unseen melds melded NoMore one_less_few hand seen told know kind inside some nearer not_there thrown low best)) in
-              omega (arith, rest, far_with goal (n - 1) left value (parts_with (parts_of hand melds told) kind) not,
-              greatest_some (λ k. value (parts_less (parts_with (parts_of hand melds told) kind) k)) (filter (is_discard (with_one hand kind) melds) every_kind) thrown (in-filter (is_discard (with_one hand kind) melds) thrown every_kind (in-range 34 0 thrown (omega arith) (omega (arith, low))) best))
+              omega (
+                arith,
+                rest,
+                far_with goal (n - 1) left value (parts_with (parts_of hand melds told) kind) not,
+                greatest_some (λ k. value (parts_less (parts_with (parts_of hand melds told) kind) k)) (filter (is_discard (with_one hand kind) melds) every_kind) thrown (in-filter (is_discard (with_one hand kind) melds) thrown every_kind (in-range 34 0 thrown (omega arith) (omega (arith, low))) best),
+              )
 
           chosen_few : (choice : Option ℕ) → by kind (parts_chosen choice parts kind) ≤ most kind
           chosen_few None = omega (arith, passed_few)
@@ -190,13 +194,16 @@ module _ (melds : List Meld) (melded : (kind : ℕ) → kind < 34 → tiles meld
   one_turn_most =
       let few = spread (λ k. cond (is_accepted hand melds told k) (many k) 0) 0 34 in
       let some = spread (λ k. cond (is_accepted hand melds told k) (many k * most k) 0) 0 34 in
-      omega (arith, sum_range (λ kind. copies kind * after kind) 0 34,
-      without_most (spread (λ kind. copies kind * after kind) 0 34) few (spread copies 0 34) common some (sums_most copies after many most (is_accepted hand melds told) common 0 34 (λ k low. each_most k (omega arith))),
-      ap (λ m. (m - few) * common) (sym (n_is ∙ sum_range copies 0 34)) ∙ ap (λ m. (n - m) * common) (sym (accepted_sum (λ pair. pair.1) hand melds told)),
-      accepted_sum (most_by goal (n - 1) left value (parts_of hand melds told)) hand melds told)
+      omega (
+        arith,
+        sum_range (λ kind. copies kind * after kind) 0 34,
+        without_most (spread (λ kind. copies kind * after kind) 0 34) few (spread copies 0 34) common some (sums_most copies after many most (is_accepted hand melds told) common 0 34 (λ k low. each_most k (omega arith))),
+        ap (λ m. (m - few) * common) (sym (n_is ∙ sum_range copies 0 34)) ∙ ap (λ m. (n - m) * common) (sym (accepted_sum (λ pair. pair.1) hand melds told)),
+        accepted_sum (most_by goal (n - 1) left value (parts_of hand melds told)) hand melds told,
+      )
 
 module _ (melds : List Meld) (melded : (kind : ℕ) → kind < 34 → tiles melds kind ≤ 4) (play : Play) (goal : ℕ) where
-  plays_few : (turns : ℕ) (drawn hand seen told : List ℕ) (n : ℕ) → KnowsLacked NoMore hand melds seen told → n ≡ unseen_of (parts_of hand melds seen) → draws_by play drawn goal (parts_of hand melds seen) turns ≤ counted_most goal (parts_of hand melds told) n turns
+  pub plays_few : (turns : ℕ) (drawn hand seen told : List ℕ) (n : ℕ) → KnowsLacked NoMore hand melds seen told → n ≡ unseen_of (parts_of hand melds seen) → draws_by play drawn goal (parts_of hand melds seen) turns ≤ counted_most goal (parts_of hand melds told) n turns
   unfolding draws_by counted_most
   plays_few zero drawn hand seen told n know n_is = omega arith
   plays_few (suc left) drawn hand seen told n know n_is =
@@ -229,15 +236,23 @@ module _ (goal unseen left : ℕ) (lower upper : ShapeParts → ℕ) (each : (pa
   pairs_less : (parts : ShapeParts) (pairs : List (ℕ × ℕ)) → sum_by (counted_by goal unseen left lower parts) pairs ≤ sum_by (most_by goal unseen left upper parts) pairs
   pairs_less parts [] = omega arith
   pairs_less parts (pair ∷ pairs) =
-      omega (arith, sum_by-cons (counted_by goal unseen left lower parts) pair pairs, sum_by-cons (most_by goal unseen left upper parts) pair pairs, pairs_less parts pairs,
-      times_few (pair.1) (pair.1) (counted_with goal unseen left lower (parts_with parts pair.0)) (most_with goal unseen left upper parts pair.0) (omega arith) (omega (arith, with_less (parts_with parts pair.0))))
+      omega (
+        arith,
+        sum_by-cons (counted_by goal unseen left lower parts) pair pairs,
+        sum_by-cons (most_by goal unseen left upper parts) pair pairs,
+        pairs_less parts pairs,
+        times_few (pair.1) (pair.1) (counted_with goal unseen left lower (parts_with parts pair.0)) (most_with goal unseen left upper parts pair.0) (omega arith) (omega (arith, with_less (parts_with parts pair.0))),
+      )
 
-counted_less : (goal turns unseen : ℕ) (parts : ShapeParts) → counted_draws goal parts unseen turns ≤ counted_most goal parts unseen turns
+pub counted_less : (goal turns unseen : ℕ) (parts : ShapeParts) → counted_draws goal parts unseen turns ≤ counted_most goal parts unseen turns
 unfolding counted_draws counted_most accepted_draws accepted_most
 counted_less goal zero unseen parts = omega arith
 counted_less goal (suc left) unseen parts = by_test (is_there goal parts)
-    (omega (arith, times_few (unseen - live_in (accepts parts)) (unseen - live_in (accepts parts)) (counted_draws goal parts (unseen - 1) left) (counted_most goal parts (unseen - 1) left) (omega arith) (counted_less goal left (unseen - 1) parts),
-    pairs_less goal (unseen - 1) left (λ rest. counted_draws goal rest (unseen - 1) left) (λ rest. counted_most goal rest (unseen - 1) left) (counted_less goal left (unseen - 1)) parts (accepts parts)))
+    (omega (
+      arith,
+      times_few (unseen - live_in (accepts parts)) (unseen - live_in (accepts parts)) (counted_draws goal parts (unseen - 1) left) (counted_most goal parts (unseen - 1) left) (omega arith) (counted_less goal left (unseen - 1) parts),
+      pairs_less goal (unseen - 1) left (λ rest. counted_draws goal rest (unseen - 1) left) (λ rest. counted_most goal rest (unseen - 1) left) (counted_less goal left (unseen - 1)) parts (accepts parts),
+    ))
   where
     by_test : {m n : ℕ} (t : Bool) → m ≤ n → cond t (all_draws unseen (suc left)) m ≤ cond t (all_draws unseen (suc left)) n
     by_test true less = omega arith

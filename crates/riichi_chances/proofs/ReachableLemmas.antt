@@ -1,5 +1,5 @@
 -- The hands of a graph are those that may be come to.
-use Rattle.std.proofs.Common.{◌≡◌, ℕ, zero, suc, ◌+◌, ◌*◌, ◌<◌, ◌≤◌, Bool, true, false, ◌⊎◌, cond, All, Contains, IsErrAnd, OnOk, Some, Result, Ok, Err, List, [], ◌∷◌, ◌++◌, inl, inr, length, length-append, map, take, refl, sym, ap, subst, ◌∙◌, ⊎_elim, arith}
+use Rattle.std.proofs.Common.{◌≡◌, ℕ, zero, suc, ◌+◌, ◌*◌, ◌<◌, ◌≤◌, Bool, true, false, ◌⊎◌, cond, max, All, Contains, IsErrAnd, OnOk, Some, Result, Ok, Err, List, [], ◌∷◌, ◌++◌, inl, inr, length, length-append, map, take, refl, sym, ap, subst, ◌∙◌, ⊎_elim, arith}
 use Rattle.std.proofs.lemmas.Bool.{and_parts, cases_eq, ltb-true}
 use Rattle.std.proofs.lemmas.Bool.Decides.{nat_tests}
 use Rattle.std.proofs.lemmas.List.{get_or_append_left, get_or_default, get_or_push}
@@ -78,12 +78,12 @@ not_absent (key ∷ keys) hand e = by_test (pointwise nat_eq hand key) refl e (n
 
 -- ---- a node leads to hands that are there
 
-no_value : (draws : List Draw) → draws_value (λ p. 0) draws ≡ 0
+no_value : (draws : List Draw) → draws_value (λ p. 0) 0 draws ≡ 0
 no_value [] = refl
-no_value (draw ∷ draws) = times_none (draw.live) (greatest (λ p. 0) draw.rests.items) (sum_by-cons (draw_value (λ p. 0)) draw draws) (greatest_few (λ p. 0) 0 draw.rests.items (λ k i. omega arith)) (no_value draws)
+no_value (draw ∷ draws) = times_none (draw.live) (greatest (λ p. 0) draw.rests.items) (sum_by-cons (draw_value (λ p. 0) 0) draw draws) (greatest_few (λ p. 0) 0 draw.rests.items (λ k i. omega arith)) (no_value draws)
   where
-    times_none : {s r : ℕ} (l g : ℕ) → s ≡ l * g + r → g ≤ 0 → r ≡ 0 → s ≡ 0
-    times_none {s} {r} l g e f h = let none : g ≡ 0 = omega (arith, f) in let times : l * g ≡ l * 0 = ap (λ n. l * n) none in omega (arith, e, times, h)
+    times_none : {s r : ℕ} (l g : ℕ) → s ≡ l * max g 0 + r → g ≤ 0 → r ≡ 0 → s ≡ 0
+    times_none {s} {r} l g e f h = let none : max g 0 ≡ 0 = omega (arith, f) in let times : l * max g 0 ≡ l * 0 = ap (λ n. l * n) none in omega (arith, e, times, h)
 
 one_of_sum : (f : ℕ × ℕ → ℕ) (pairs : List (ℕ × ℕ)) (pair : ℕ × ℕ) → IsIn pair pairs → f pair ≤ sum_by f pairs
 one_of_sum f [] pair there = absurd there
@@ -123,17 +123,20 @@ module _ (root : ShapeParts) (graph : Graph) (is : IsGraph root graph) (place : 
         told : (d : ℕ) → 1 < d → nat_le d 1 ≡ false
         told d more = grind (arith, nat_tests)
 
-    leads_none : rests_value missing parts ≡ 0
+    leads_none : rests_value missing 0 parts ≡ 0
     leads_none =
-        sym (here.leads (here.ready ∙ is_far) missing)
-        ∙ draws_same (λ p. missing (placed_hand parts keys p)) (λ p. 0) place (slice_index_or graph.nodes.items place (some_node graph.nodes.items place low)).draws.items here.before (λ p small. none_absent keys (slice_index_or keys p []) (get_or-in keys p [] (omega (arith, small, low, is.each))))
+        sym (here.leads (here.ready ∙ is_far) missing 0)
+        ∙ draws_same (λ p. missing (placed_hand parts keys p)) (λ p. 0) 0 place (slice_index_or graph.nodes.items place (some_node graph.nodes.items place low)).draws.items here.before (λ p small. none_absent keys (slice_index_or keys p []) (get_or-in keys p [] (omega (arith, small, low, is.each))))
         ∙ no_value (slice_index_or graph.nodes.items place (some_node graph.nodes.items place low)).draws.items
 
     rest_none : counted_rest missing (parts_with parts kind) ≡ 0
     rest_none =
         let tests = and_parts (nat_lt 0 (live_of parts.tiles parts.melds parts.seen kind)) (nat_lt (distance_of (with_one parts.tiles kind) parts.melds) (distance_of parts.tiles parts.melds)) step.accepted in
-        none_left (live_of parts.tiles parts.melds parts.seen kind) (counted_rest missing (parts_with parts kind)) (ltb-true 0 (live_of parts.tiles parts.melds parts.seen kind) tests.0)
-        (omega (arith, leads_none, one_of_sum (rest_by missing parts) (accepts parts) (kind, live_of parts.tiles parts.melds parts.seen kind) (accepted_listed parts kind step.is_kind step.accepted)))
+        no_least (counted_rest missing (parts_with parts kind)) (none_left (live_of parts.tiles parts.melds parts.seen kind) (max (counted_rest missing (parts_with parts kind)) 0) (ltb-true 0 (live_of parts.tiles parts.melds parts.seen kind) tests.0)
+        (omega (arith, leads_none, one_of_sum (rest_by missing 0 parts) (accepts parts) (kind, live_of parts.tiles parts.melds parts.seen kind) (accepted_listed parts kind step.is_kind step.accepted))))
+      where
+        no_least : (n : ℕ) → max n 0 ≡ 0 → n ≡ 0
+        no_least n e = omega (arith, e)
 
     pub stands : IsIn (without_one (with_one parts.tiles kind) thrown) keys
     unfolding counted_rest

@@ -1,5 +1,6 @@
 pub mod Aims
 pub mod AtMost
+pub mod Bests
 pub mod Chances
 pub mod Counted
 pub mod Draws

@@ -3,6 +3,7 @@ ghost use Rattle.std.specs.Prelude.{◌≡◌, ◌<◌, ◌≤◌, IfOk, OnOk, l
 ghost use Rattle.riichi_hand.specs.Hand.{is_thirteen};
 ghost use Rattle.riichi_hand.specs.HandParts.{ShapeParts};
 ghost use Rattle.riichi_chances.specs.Chances as spec;
+ghost use Rattle.riichi_chances.specs.Draws.{unseen_of};
 ghost use Rattle.riichi_chances.specs.Graph.{AreBefore, IsGraph};
 ghost use Rattle.riichi_chances.specs.Reachable.{ComesToFew, ComesToMore, OnTooMany, alone};
 
@@ -19,11 +20,14 @@ use riichi_shape::RowSource;
 use std::alloc::{AllocError, Global};
 
 /// At the place of each number of turns: of all ordered draws of so many unseen tiles those that bring a hand to be ready, and those
-/// by which it wins, each by the play that has the most for just these turns.
+/// by which it wins, each by the play that has the most for just these turns; and how many any play that keeps only what brings the
+/// hand nearer has at most.
 #[derive(Clone, Copy, Debug, PartialEq, Eq, Drop)]
 pub struct Chances {
     pub ready: [u128; 19],
     pub win: [u128; 19],
+    pub ready_at_most: [u128; 19],
+    pub win_at_most: [u128; 19],
     pub all: [u128; 19],
 }
 
@@ -37,6 +41,16 @@ impl Chances {
             Goal::Win => &self.win,
         }
     }
+
+    /// The most draws that bring the hand to a goal by any play that keeps only what brings it nearer, and then makes a best discard.
+    pub fn at_most(&self, goal: Goal) -> &[u128; 19]
+        ensures { result.now ≡ spec.most_of goal self.now }
+    {
+        match goal {
+            Goal::Ready => &self.ready_at_most,
+            Goal::Win => &self.win_at_most,
+        }
+    }
 }
 
 impl Chances {
@@ -48,6 +62,8 @@ impl Chances {
         let place = turns as usize;
         self.ready[place] = rows.ready[place];
         self.win[place] = rows.win[place];
+        self.ready_at_most[place] = rows.ready_at_most[place];
+        self.win_at_most[place] = rows.win_at_most[place];
         self.all[place] = all;
     }
 }
@@ -63,6 +79,8 @@ pub fn chances_of<R: RowSource>(
     requires thirteen { is_thirteen asked.now.tiles asked.now.melds ≡ true }
     requires turns { turns ≤ 18 }
     ensures chances { IfOk result (spec.AreChances asked.now turns) }
+    ensures at_most { IfOk result (spec.AreAtMost asked.now (unseen_of asked.now) turns) }
+    ensures plays { IfOk result (spec.IsNoPlayAbove asked.now turns) }
     ensures few { OnOk result (ComesToFew most_hands (alone asked.now)) }
     ensures many { OnTooMany result (ComesToMore most_hands (alone asked.now)) }
     ensures stays { source.new ≡ source.old }
@@ -90,9 +108,12 @@ pub(crate) fn by_turns(
         spec.AreAllCounted root graph.now.hands.keys places.now unseen turns each.items) }
 {
     let mut rows = Vec::with_capacity(graph.alloc, graph.nodes.len())?;
+    let mut bests = Vec::new(graph.alloc);
     let none = Chances {
         ready: [0; 19],
         win: [0; 19],
+        ready_at_most: [0; 19],
+        win_at_most: [0; 19],
         all: [0; 19],
     };
     let mut each = vec![in graph.alloc; none; places.len()]?;
@@ -101,7 +122,7 @@ pub(crate) fn by_turns(
             unseen,
             turns: count,
         };
-        fill(&mut rows, graph, span)?;
+        fill(&mut rows, &mut bests, graph, span)?;
         let all = span.all_draws()[count as usize];
         tell_each(&mut each, places, rows.as_slice(), count, all);
     }

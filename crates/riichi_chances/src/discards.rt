@@ -1,10 +1,11 @@
 //! The chances after each best discard.
-ghost use Rattle.std.specs.Prelude.{◌≡◌, ℕ, ◌<◌, ◌≤◌, ◌++◌, [], ◌∷◌, All, Contains, IfOk, OnOk, length, map};
+ghost use Rattle.std.specs.Prelude.{◌≡◌, ℕ, ◌<◌, ◌≤◌, ◌++◌, [], ◌∷◌, All, Contains, IfOk, OnOk, length, map, true};
 ghost use Rattle.riichi_hand.specs.Hand.{size};
 ghost use Rattle.riichi_shape.specs.Discards.{discards_of};
 ghost use Rattle.riichi_shape.specs.EveryWinning.{distance_of};
 ghost use Rattle.riichi_deeper.specs.Drawn.{parts_without};
 ghost use Rattle.riichi_chances.specs.Chances as spec;
+ghost use Rattle.riichi_chances.specs.Draws.{is_there};
 ghost use Rattle.riichi_chances.specs.Reachable.{ComesToFew, ComesToMore, Group, OnTooMany, alone, groups_of, together};
 
 use crate::building::places_of;
@@ -39,6 +40,8 @@ pub fn discard_chances<R: RowSource>(
     ensures each { IfOk result (λ each. map (λ one. one.kind) each.items
         ≡ map (λ discard. discard.kind) (discards_of asked.now.tiles asked.now.melds asked.now.seen)) }
     ensures chances { IfOk result (λ each. spec.AreAfter asked.now turns each.items) }
+    ensures at_most { IfOk result (λ each. spec.AreAfterAtMost asked.now turns each.items) }
+    ensures plays { IfOk result (λ each. spec.IsNoPlayAboveAfter asked.now turns each.items) }
     ensures few { OnOk result (All (ComesToFew most_hands) (groups_of asked.now)) }
     ensures many { OnTooMany result
         ((group : Group) × Contains (groups_of asked.now) group × ComesToMore most_hands group) }
@@ -69,10 +72,13 @@ fn each_alone<R: RowSource>(
     requires fourteen { size asked.now.tiles asked.now.melds ≡ 14 }
     requires discards { discards.now
         ≡ discards_of asked.now.tiles asked.now.melds asked.now.seen }
+    requires won { is_there 0 asked.now ≡ true }
     requires turns { turns ≤ 18 }
     ensures each { IfOk result (λ each. map (λ one. one.kind) each.items
         ≡ map (λ discard. discard.kind) discards.now) }
     ensures chances { IfOk result (λ each. spec.AreAfter asked.now turns each.items) }
+    ensures at_most { IfOk result (λ each. spec.AreAfterAtMost asked.now turns each.items) }
+    ensures plays { IfOk result (λ each. spec.IsNoPlayAboveAfter asked.now turns each.items) }
     ensures few { OnOk result ((kind : ℕ) → Contains (map (λ discard. discard.kind) discards.now) kind
         → ComesToFew most_hands (alone (parts_without asked.now kind))) }
     ensures many { OnTooMany result
@@ -112,6 +118,8 @@ fn all_together<R: RowSource>(
     ensures each { IfOk result (λ each. map (λ one. one.kind) each.items
         ≡ map (λ discard. discard.kind) discards.now) }
     ensures chances { IfOk result (λ each. spec.AreAfter asked.now turns each.items) }
+    ensures at_most { IfOk result (λ each. spec.AreAfterAtMost asked.now turns each.items) }
+    ensures plays { IfOk result (λ each. spec.IsNoPlayAboveAfter asked.now turns each.items) }
     ensures few { OnOk result (ComesToFew most_hands (together asked.now)) }
     ensures many { OnTooMany result (ComesToMore most_hands (together asked.now)) }
     ensures stays { source.new ≡ source.old }

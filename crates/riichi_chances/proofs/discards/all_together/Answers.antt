@@ -1,6 +1,6 @@
 use Rattle.std.proofs.Common.{List, ℕ, length, refl, ap, subst, ◌∙◌}
 use Rattle.riichi_chances.specs.Chances.{AreAllCounted}
-use Rattle.riichi_chances.proofs.ChancesLemmas.{after_all, as_many}
+use Rattle.riichi_chances.proofs.ChancesLemmas.{after_all, after_most, after_plays, as_many}
 use Rattle.riichi_chances.specs.Reachable.{together}
 use Rattle.riichi_chances.proofs.ReachableLemmas.{more_as, none_within, together_come, together_few, too_many_then}
 use Rattle.riichi_chances.proofs.discards.all_together.Goals as goal
@@ -21,6 +21,22 @@ returns-clause-chances g c =
     let chances = c.in_ok-chances.chances.items in
     let counted = subst (λ (places : List ℕ). AreAllCounted asked keys places c.unseen-unseen.result c.args.turns chances) c.as_slice.ensures.value (c.in_ok-chances.ensures.counted asked c.in_ok-places.ensures.grows.whole) in
     after_all asked (c.unseen-unseen.ensures.fourteen c.requires.fourteen) c.requires.far c.args.discards.now c.requires.discards keys c.in_ok-places.places.items c.in_ok-places.ensures.left c.unseen-unseen.result c.args.turns chances c.in_ok-each.each.items c.unseen-unseen.ensures.value counted c.in_ok-each.ensures.kinds (c.in_ok-each.ensures.chances ∙ c.as_slice-2.ensures.value)
+
+pub returns-clause-at_most : goal.returns-clause-at_most
+returns-clause-at_most g c =
+    let asked = c.args.asked.now in
+    let keys = c.places_of.new.graph.hands.keys in
+    let chances = c.in_ok-chances.chances.items in
+    let counted = subst (λ (places : List ℕ). AreAllCounted asked keys places c.unseen-unseen.result c.args.turns chances) c.as_slice.ensures.value (c.in_ok-chances.ensures.counted asked c.in_ok-places.ensures.grows.whole) in
+    after_most asked (c.unseen-unseen.ensures.fourteen c.requires.fourteen) c.requires.far c.args.discards.now c.requires.discards keys c.in_ok-places.places.items c.in_ok-places.ensures.left c.unseen-unseen.result c.args.turns chances c.in_ok-each.each.items c.unseen-unseen.ensures.value counted c.in_ok-each.ensures.kinds (c.in_ok-each.ensures.chances ∙ c.as_slice-2.ensures.value)
+
+pub returns-clause-plays : goal.returns-clause-plays
+returns-clause-plays g c =
+    let asked = c.args.asked.now in
+    let keys = c.places_of.new.graph.hands.keys in
+    let chances = c.in_ok-chances.chances.items in
+    let counted = subst (λ (places : List ℕ). AreAllCounted asked keys places c.unseen-unseen.result c.args.turns chances) c.as_slice.ensures.value (c.in_ok-chances.ensures.counted asked c.in_ok-places.ensures.grows.whole) in
+    after_plays asked (c.unseen-unseen.ensures.fourteen c.requires.fourteen) c.requires.far c.args.discards.now c.requires.discards keys c.in_ok-places.places.items c.in_ok-places.ensures.left c.unseen-unseen.result c.args.turns chances c.in_ok-each.each.items c.unseen-unseen.ensures.value counted c.in_ok-each.ensures.kinds (c.in_ok-each.ensures.chances ∙ c.as_slice-2.ensures.value)
 
 pub returns-clause-few : goal.returns-clause-few
 returns-clause-few g c =

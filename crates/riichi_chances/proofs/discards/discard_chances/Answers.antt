@@ -20,6 +20,12 @@ all_together-requires-clause-far g c =
     let far = sym (c.is_won.ensures (distance_of parts.tiles parts.melds) (omega (arith, ints, shanten_told parts c.shape_with-answer.result c.shape_with-answer.ensures.shape))) ∙ c.if-is_won.false in
     omega (arith, leb-false (distance_of parts.tiles parts.melds) 0 far)
 
+pub each_alone-requires-clause-won : goal.each_alone-requires-clause-won
+each_alone-requires-clause-won g c =
+    let parts = c.args.asked.now in
+    let fits : FitsSigned width.w8 c.shape_with-answer.result.shanten = search rules in
+    sym (c.is_won.ensures (distance_of parts.tiles parts.melds) (omega (arith, ints, shanten_told parts c.shape_with-answer.result c.shape_with-answer.ensures.shape))) ∙ c.if-is_won.true
+
 pub all_together-requires-clause-discards : goal.all_together-requires-clause-discards
 all_together-requires-clause-discards g c = list_of_fourteen c.args.asked.now c.shape_with-answer.result c.in-Fourteen.discards c.shape_with-answer.ensures.shape c.requires.fourteen c.in-Fourteen.is
 

@@ -4,9 +4,10 @@ use Rattle.riichi_hand.specs.HandParts.{ShapeParts}
 use Rattle.riichi_tiles.proofs.Members.{IsIn, in-Contains}
 use Rattle.riichi_deeper.specs.Drawn.{parts_without}
 use Rattle.riichi_shape.specs.declared.discard.Discard.{Discard}
-use Rattle.riichi_chances.specs.Chances.{AreAfter}
+use Rattle.riichi_chances.specs.Chances.{AreAfter, AreAfterAtMost, AreAtMost, AreChances, IsNoPlayAbove, IsNoPlayAboveAfter, parts_told}
+use Rattle.riichi_chances.specs.Draws.{unseen_of}
 use Rattle.riichi_chances.specs.declared.discards.DiscardChances.{DiscardChances}
-use Rattle.riichi_chances.proofs.ChancesLemmas.{after_more, after_none, told_kinds, told_more}
+use Rattle.riichi_chances.proofs.ChancesLemmas.{after_more, after_none, told_alone, told_kinds, told_more}
 use Rattle.riichi_chances.specs.Graph.{kinds_of}
 use Rattle.riichi_chances.proofs.CountingLemmas.{best_at, never_past}
 use Rattle.riichi_chances.specs.Reachable.{ComesToFew, ComesToMore, alone}
@@ -18,7 +19,9 @@ loop-at-init g c = record {
   stays = refl;
   told = ap told_kinds c.new-each.ensures.items;
   few = λ kind there. absurd there;
-  after = subst (λ (each : List DiscardChances). AreAfter c.args.asked.now c.args.turns each) (sym c.new-each.ensures.items) (after_none c.args.asked.now c.args.turns);
+  after = subst (λ (each : List DiscardChances). AreAfter c.args.asked.now c.args.turns each) (sym c.new-each.ensures.items) (after_none (λ kind. AreChances (parts_without c.args.asked.now kind) c.args.turns));
+  at_most = subst (λ (each : List DiscardChances). AreAfterAtMost c.args.asked.now c.args.turns each) (sym c.new-each.ensures.items) (after_none (λ kind. AreAtMost (parts_told c.args.asked.now kind) (unseen_of (parts_without c.args.asked.now kind)) c.args.turns));
+  plays = subst (λ (each : List DiscardChances). IsNoPlayAboveAfter c.args.asked.now c.args.turns each) (sym c.new-each.ensures.items) (after_none (λ kind. IsNoPlayAbove (parts_without c.args.asked.now kind) c.args.turns));
 }
 
 pub without_tile-rest-requires-clause-held : goal.without_tile-rest-requires-clause-held
@@ -30,13 +33,18 @@ unreachable-requires g c = never_past c.args.discards.now c.loop-at.at (omega (a
 pub loop-at-preserved : goal.loop-at-preserved
 loop-at-preserved g c =
     let so_far = c.loop-at.invariant in
+    let asked = c.args.asked.now in
+    let turns = c.args.turns in
+    let rest_is = c.without_tile-rest.ensures.value in
     let one : DiscardChances = record { kind = c.in-Some.discard.kind; chances = c.in_ok-chances-in-Some.chances } in
     record {
       stays = c.chances_of.ensures.stays ∙ so_far.stays;
       told = told_more c.loop-at.each.items c.keep.new.each.items one c.args.discards.now c.loop-at.at c.in-Some.discard (sym c.in-Some.is ∙ c.short_at.ensures) refl c.in_ok-keep-in-Some.ensures so_far.told;
       few = each_more c.args.discards.now c.loop-at.at c.in-Some.discard (sym c.in-Some.is ∙ c.short_at.ensures) (λ kind. ComesToFew c.args.most_hands (alone (parts_without c.args.asked.now kind))) so_far.few
           (subst (λ (parts : ShapeParts). ComesToFew c.args.most_hands (alone parts)) c.without_tile-rest.ensures.value c.in_ok-chances-in-Some.ensures.few);
-      after = after_more c.args.asked.now c.without_tile-rest.result c.args.turns c.loop-at.each.items c.keep.new.each.items one so_far.after c.without_tile-rest.ensures.value c.in_ok-chances-in-Some.ensures.chances c.in_ok-keep-in-Some.ensures;
+      after = after_more (λ kind. AreChances (parts_without asked kind) turns) c.loop-at.each.items c.keep.new.each.items one so_far.after (subst (λ (parts : ShapeParts). AreChances parts turns one.chances) rest_is c.in_ok-chances-in-Some.ensures.chances) c.in_ok-keep-in-Some.ensures;
+      at_most = after_more (λ kind. AreAtMost (parts_told asked kind) (unseen_of (parts_without asked kind)) turns) c.loop-at.each.items c.keep.new.each.items one so_far.at_most (told_alone asked c.without_tile-rest.result one.kind turns one.chances c.requires.won rest_is c.in_ok-chances-in-Some.ensures.at_most) c.in_ok-keep-in-Some.ensures;
+      plays = after_more (λ kind. IsNoPlayAbove (parts_without asked kind) turns) c.loop-at.each.items c.keep.new.each.items one so_far.plays (subst (λ (parts : ShapeParts). IsNoPlayAbove parts turns one.chances) rest_is c.in_ok-chances-in-Some.ensures.plays) c.in_ok-keep-in-Some.ensures;
     }
 
 pub returns-clause-each : goal.returns-clause-each

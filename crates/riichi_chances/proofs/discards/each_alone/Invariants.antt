@@ -1,7 +1,7 @@
 use Rattle.std.proofs.Common.{◌≡◌, ℕ, take}
 use Rattle.riichi_tiles.proofs.Members.{IsIn}
 use Rattle.riichi_deeper.specs.Drawn.{parts_without}
-use Rattle.riichi_chances.specs.Chances.{AreAfter}
+use Rattle.riichi_chances.specs.Chances.{AreAfter, AreAfterAtMost, IsNoPlayAboveAfter}
 use Rattle.riichi_chances.proofs.ChancesLemmas.{told_kinds}
 use Rattle.riichi_chances.specs.Graph.{kinds_of}
 use Rattle.riichi_chances.specs.Reachable.{ComesToFew, alone}
@@ -14,4 +14,6 @@ invariant-loop-at g l = record {
   told : told_kinds l.each.items ≡ kinds_of (take l.at l.discards);
   few : (kind : ℕ) → IsIn kind (kinds_of (take l.at l.discards)) → ComesToFew l.most_hands (alone (parts_without l.asked kind));
   after : AreAfter l.asked l.turns l.each.items;
+  at_most : AreAfterAtMost l.asked l.turns l.each.items;
+  plays : IsNoPlayAboveAfter l.asked l.turns l.each.items;
 }
