@@ -22,7 +22,7 @@ use Rattle.riichi_deeper.proofs.DrawnLemmas.{is_thirteen_by, thirteen_is}
 use Rattle.riichi_deeper.specs.Drawn.{parts_with}
 use Rattle.riichi_chances.specs.Counted.{parts_less}
 use Rattle.riichi_chances.specs.Draws.{greatest}
-use Rattle.riichi_chances.specs.Graph.{AreBefore, AreLeft, AreRests, Grows, IsGraph, IsPlaceOf, LeadBefore, LeadTo, draws_value, draw_value, kinds_of, placed_hand, rest_by, rests_value}
+use Rattle.riichi_chances.specs.Graph.{AreBefore, AreLeft, AreRests, Grows, IsGraph, IsPlaceOf, LeadBefore, LeadTo, draws_value, draw_value, discard_kinds, placed_hand, rest_by, rests_value}
 use Rattle.riichi_chances.specs.Laws.{IsFourteen, IsThirteen}
 use Rattle.riichi_chances.specs.declared.graph.Draw.{Draw}
 use Rattle.riichi_chances.specs.declared.graph.Graph.{Graph}
@@ -128,7 +128,7 @@ module _ (parts : ShapeParts) (copies : List ℕ) where
 
 pub record RestsSoFar (drawn : ShapeParts) (discards : List Discard) (graph : Graph) (places : List ℕ) (at : ℕ) : Type 0 where
   pub before : AreBefore (length graph.nodes.items) places
-  pub left : AreLeft graph.hands.keys places drawn.tiles (kinds_of (take at discards))
+  pub left : AreLeft graph.hands.keys places drawn.tiles (discard_kinds (take at discards))
 
 module _ (drawn : ShapeParts) (discards : List Discard) where
   pub rests_init : (graph : Graph) → RestsSoFar drawn discards graph [] 0
@@ -158,12 +158,12 @@ module _ (drawn : ShapeParts) (discards : List Discard) where
     rests_step = subst (λ (ps : List ℕ). RestsSoFar drawn discards after ps (at + 1)) (sym more_is) (record {
       before = place_before;
       left = map_push now places place ∙ ap (λ (hands : List (List ℕ)). hands ++ now place ∷ []) (map_places now was (length before.nodes.items) places so_far.before (λ p small. grows.more.same p (omega (arith, small, is.each))) ∙ so_far.left)
-          ∙ ap (λ (hand : List ℕ). map (without_one drawn.tiles) (kinds_of (take at discards)) ++ hand ∷ []) (there.is ∙ ap (λ (p : ShapeParts). p.tiles) rest_is)
-          ∙ sym (map_push (without_one drawn.tiles) (kinds_of (take at discards)) short.kind) ∙ ap (map (without_one drawn.tiles)) (sym (kinds_more discards at short found));
+          ∙ ap (λ (hand : List ℕ). map (without_one drawn.tiles) (discard_kinds (take at discards)) ++ hand ∷ []) (there.is ∙ ap (λ (p : ShapeParts). p.tiles) rest_is)
+          ∙ sym (map_push (without_one drawn.tiles) (discard_kinds (take at discards)) short.kind) ∙ ap (map (without_one drawn.tiles)) (sym (kinds_more discards at short found));
     })
 
-  pub rests_end : (graph : Graph) (places : List ℕ) (at : ℕ) → length discards ≤ at → RestsSoFar drawn discards graph places at → AreLeft graph.hands.keys places drawn.tiles (kinds_of discards)
-  rests_end graph places at past so_far = so_far.left ∙ ap (λ (ds : List Discard). map (without_one drawn.tiles) (kinds_of ds)) (take_all at discards past)
+  pub rests_end : (graph : Graph) (places : List ℕ) (at : ℕ) → length discards ≤ at → RestsSoFar drawn discards graph places at → AreLeft graph.hands.keys places drawn.tiles (discard_kinds discards)
+  rests_end graph places at past so_far = so_far.left ∙ ap (λ (ds : List Discard). map (without_one drawn.tiles) (discard_kinds ds)) (take_all at discards past)
 
 pub ok_as : {A E : Type 0} {P Q : A → Type 0} (r : Result A E) → ((value : A) → P value → Q value) → IfOk r P → IfOk r Q
 ok_as (Ok value) told is = told value is

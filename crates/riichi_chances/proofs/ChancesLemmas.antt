@@ -15,17 +15,17 @@ use Rattle.riichi_shape.specs.declared.discard.Discard.{Discard}
 use Rattle.riichi_shape.specs.declared.discard.ShortDiscard.{ShortDiscard}
 use Rattle.riichi_shape.proofs.Choices.{is_chosen}
 use Rattle.riichi_deeper.specs.Drawn.{parts_without}
-use Rattle.riichi_chances.specs.Chances.{AreAfter, AreAfterAtMost, AreAllCounted, AreAtMost, AreChances, AreCounted, AreTold, IsNoPlayAbove, IsNoPlayAboveAfter, IsTold, parts_told}
+use Rattle.riichi_chances.specs.Chances.{AreAfter, AreAfterAtMost, AreAllCounted, AreAtMost, AreChances, AreCounted, AreAllTold, IsNoPlayAbove, IsNoPlayAboveAfter, IsTold, parts_told}
 use Rattle.riichi_chances.specs.Aims.{HasRows, counted_in, numbers_for}
 use Rattle.riichi_chances.specs.AtMost.{counted_most}
 use Rattle.riichi_chances.specs.Counted.{counted_draws, parts_less}
 use Rattle.riichi_chances.specs.Draws.{all_draws, draws, is_there, unseen_of}
-use Rattle.riichi_chances.specs.Graph.{AreBefore, AreLeft, AreRows, IsPlaceOf, kinds_of, no_rows, placed_hand}
+use Rattle.riichi_chances.specs.Graph.{AreBefore, AreLeft, AreRows, IsPlaceOf, discard_kinds, no_rows, placed_hand}
 use Rattle.riichi_chances.specs.Laws.{IsFourteen, IsThirteen}
 use Rattle.riichi_chances.specs.declared.chances.Chances.{Chances}
 use Rattle.riichi_chances.specs.declared.discards.DiscardChances.{DiscardChances}
 use Rattle.riichi_chances.specs.declared.graph.Graph.{Graph}
-use Rattle.riichi_chances.specs.Plays.{Play, draws_by}
+use Rattle.riichi_chances.specs.Plays.{DrawPlay, draws_by}
 use Rattle.riichi_chances.specs.declared.rows.Column.{Column}
 use Rattle.riichi_chances.specs.declared.rows.Column.TheVariants.{Ready, Win, ReadyAtMost, WinAtMost}
 use Rattle.riichi_chances.specs.declared.rows.Rows.{Rows}
@@ -108,7 +108,7 @@ module _ (turns number : ℕ) (rows : List Rows) (places : List ℕ) (first each
 pub written_back : (new items : List Chances) (size : ℕ) → length new ≡ length items → length items ≡ size → take size (new ++ drop (length new) items) ≡ new
 written_back new items size e f = ap (λ (rest : List Chances). take size (new ++ rest)) (drop_all (length new) items (omega (arith, e))) ∙ ap (take size) (append-nil new) ∙ take_all size new (omega (arith, e, f))
 
-module _ (places : List ℕ) (unseen count : ℕ) (before after : List Chances) (rows : List Rows) (number : ℕ) (small : count < 19) (told : AreTold count places rows number before after) (long : (at : ℕ) (chances : Chances) → at < length places → AreLong (slice_index_or before at chances)) where
+module _ (places : List ℕ) (unseen count : ℕ) (before after : List Chances) (rows : List Rows) (number : ℕ) (small : count < 19) (told : AreAllTold count places rows number before after) (long : (at : ℕ) (chances : Chances) → at < length places → AreLong (slice_index_or before at chances)) where
   pub long_next : (at : ℕ) (chances : Chances) → at < length places → AreLong (slice_index_or after at chances)
   long_next at chances low = told_long count (slice_index_or rows (slice_index places at) no_rows) number (slice_index_or before at chances) (slice_index_or after at chances) (told at no_rows chances low) (long at chances low)
 
@@ -149,7 +149,7 @@ are_at_most parts unseen turns chances n unseen_is are = record {
 }
 
 -- no play has more
-pub no_play_above : (parts place : ShapeParts) (unseen turns : ℕ) (chances : Chances) → ((play : Play) (goal count : ℕ) → draws_by play [] goal parts count ≤ counted_most goal place unseen count) → AreCounted place unseen turns chances → IsNoPlayAbove parts turns chances
+pub no_play_above : (parts place : ShapeParts) (unseen turns : ℕ) (chances : Chances) → ((play : DrawPlay) (goal count : ℕ) → draws_by play [] goal parts count ≤ counted_most goal place unseen count) → AreCounted place unseen turns chances → IsNoPlayAbove parts turns chances
 no_play_above parts place unseen turns chances law are = record {
   ready = λ play k low. omega (arith, are.ready_at_most k low, law play 1 k);
   win = λ play k low. omega (arith, are.win_at_most k low, law play 0 k);
@@ -179,9 +179,9 @@ told_kinds each = map (λ (one : DiscardChances). one.kind) each
 abbrev pub told_chances : List DiscardChances → List Chances
 told_chances each = map (λ (one : DiscardChances). one.chances) each
 
-pub told_more : (each after : List DiscardChances) (one : DiscardChances) (discards : List Discard) (at : ℕ) (short : ShortDiscard) → Some short ≡ option_map short_of (slice_get discards at) → one.kind ≡ short.kind → after ≡ each ++ one ∷ [] → told_kinds each ≡ kinds_of (take at discards) → told_kinds after ≡ kinds_of (take (at + 1) discards)
+pub told_more : (each after : List DiscardChances) (one : DiscardChances) (discards : List Discard) (at : ℕ) (short : ShortDiscard) → Some short ≡ option_map short_of (slice_get discards at) → one.kind ≡ short.kind → after ≡ each ++ one ∷ [] → told_kinds each ≡ discard_kinds (take at discards) → told_kinds after ≡ discard_kinds (take (at + 1) discards)
 told_more each after one discards at short e kind_is after_is so_far =
-    ap told_kinds after_is ∙ map_push (λ (it : DiscardChances). it.kind) each one ∙ ap (λ (ks : List ℕ). ks ++ one.kind ∷ []) so_far ∙ ap (λ k. kinds_of (take at discards) ++ k ∷ []) kind_is ∙ sym (kinds_more discards at short e)
+    ap told_kinds after_is ∙ map_push (λ (it : DiscardChances). it.kind) each one ∙ ap (λ (ks : List ℕ). ks ++ one.kind ∷ []) so_far ∙ ap (λ k. discard_kinds (take at discards) ++ k ∷ []) kind_is ∙ sym (kinds_more discards at short e)
 
 -- the chances of one discard more
 pub chances_more : (each after : List DiscardChances) (chances : List Chances) (at kind : ℕ) (none : Chances) → at < length chances → after ≡ each ++ (record { kind = kind; chances = slice_index_or chances at none }) ∷ [] → told_chances each ≡ take at chances → told_chances after ≡ take (at + 1) chances
@@ -236,36 +236,36 @@ module _ (drawn : ShapeParts) (is : IsFourteen drawn) (far : 0 < distance_of dra
         subst (λ (p : ShapeParts). AreAtMost p (unseen_of (parts_without drawn kind)) turns chances) (sym (ap (λ t. cond t (parts_without drawn kind) (parts_less drawn kind)) (not_won (distance_of drawn.tiles drawn.melds) far)))
         (are_at_most (parts_less drawn kind) unseen turns chances (unseen_of (parts_without drawn kind)) (unseen_is ∙ discard_unseen drawn is kind best.is_kind best.held) are)
 
-  module _ (discards : List Discard) (discards_is : discards ≡ discards_of drawn.tiles drawn.melds drawn.seen) (hands : List (List ℕ)) (places : List ℕ) (left : AreLeft hands places drawn.tiles (kinds_of discards)) where
+  module _ (discards : List Discard) (discards_is : discards ≡ discards_of drawn.tiles drawn.melds drawn.seen) (hands : List (List ℕ)) (places : List ℕ) (left : AreLeft hands places drawn.tiles (discard_kinds discards)) where
     pub as_many : length places ≡ length discards
-    as_many = sym (length-map places (λ (place : ℕ). slice_index_or hands place [])) ∙ ap length left ∙ length-map (kinds_of discards) (without_one drawn.tiles) ∙ length-map discards (λ (discard : Discard). discard.kind)
+    as_many = sym (length-map places (λ (place : ℕ). slice_index_or hands place [])) ∙ ap length left ∙ length-map (discard_kinds discards) (without_one drawn.tiles) ∙ length-map discards (λ (discard : Discard). discard.kind)
 
-    hand_left : (place : ℕ) → place < length discards → placed_hand drawn hands (slice_index places place) ≡ parts_less drawn (slice_index (kinds_of discards) place)
+    hand_left : (place : ℕ) → place < length discards → placed_hand drawn hands (slice_index places place) ≡ parts_less drawn (slice_index (discard_kinds discards) place)
     hand_left place low =
         ap (λ (tiles : List ℕ). with_tiles tiles)
-        (sym (get_or-map (λ p. slice_index_or hands p []) places place 0 [] (omega (arith, low, as_many))) ∙ ap (λ (hs : List (List ℕ)). slice_index_or hs place []) left ∙ get_or-map (without_one drawn.tiles) (kinds_of discards) place 0 [] (omega (arith, low, length-map discards (λ (discard : Discard). discard.kind))))
+        (sym (get_or-map (λ p. slice_index_or hands p []) places place 0 [] (omega (arith, low, as_many))) ∙ ap (λ (hs : List (List ℕ)). slice_index_or hs place []) left ∙ get_or-map (without_one drawn.tiles) (discard_kinds discards) place 0 [] (omega (arith, low, length-map discards (λ (discard : Discard). discard.kind))))
       where
         with_tiles : List ℕ → ShapeParts
         with_tiles tiles = record { tiles = tiles; melds = drawn.melds; seen = drawn.seen }
 
-    module _ (unseen turns : ℕ) (chances : List Chances) (each : List DiscardChances) (unseen_is : unseen ≡ unseen_of drawn) (counted : AreAllCounted drawn hands places unseen turns chances) (kinds_are : told_kinds each ≡ kinds_of discards) (chances_are : told_chances each ≡ chances)
+    module _ (unseen turns : ℕ) (chances : List Chances) (each : List DiscardChances) (unseen_is : unseen ≡ unseen_of drawn) (counted : AreAllCounted drawn hands places unseen turns chances) (kinds_are : told_kinds each ≡ discard_kinds discards) (chances_are : told_chances each ≡ chances)
         (P : ℕ → Chances → Type 0) (of_one : (kind : ℕ) → LeavesLeast drawn.tiles drawn.melds kind → (one : Chances) → AreCounted (parts_less drawn kind) unseen turns one → P kind one) where
       pub each_after : (place : ℕ) (one : DiscardChances) → place < length each → P (slice_index_or each place one).kind (slice_index_or each place one).chances
       each_after place one low = subst (λ k. P k (slice_index_or each place one).chances) (sym kind_is)
-          (of_one (slice_index (kinds_of discards) place) (best_listed drawn discards place discards_is inside) (slice_index_or each place one).chances
-          (subst (λ (it : Chances). AreCounted (parts_less drawn (slice_index (kinds_of discards) place)) unseen turns it) (sym chance_is)
+          (of_one (slice_index (discard_kinds discards) place) (best_listed drawn discards place discards_is inside) (slice_index_or each place one).chances
+          (subst (λ (it : Chances). AreCounted (parts_less drawn (slice_index (discard_kinds discards) place)) unseen turns it) (sym chance_is)
           (subst (λ (p : ShapeParts). AreCounted p unseen turns (slice_index_or chances place one.chances)) (hand_left place inside) (counted place one.chances (omega (arith, inside, as_many))))))
         where
           inside : place < length discards
           inside = omega (arith, low, length-map each (λ (it : DiscardChances). it.kind), ap length kinds_are, length-map discards (λ (discard : Discard). discard.kind))
 
-          kind_is : (slice_index_or each place one).kind ≡ slice_index (kinds_of discards) place
+          kind_is : (slice_index_or each place one).kind ≡ slice_index (discard_kinds discards) place
           kind_is = sym (get_or-map (λ (it : DiscardChances). it.kind) each place one 0 low) ∙ ap (λ (ks : List ℕ). slice_index ks place) kinds_are
 
           chance_is : (slice_index_or each place one).chances ≡ slice_index_or chances place one.chances
           chance_is = sym (get_or-map (λ (it : DiscardChances). it.chances) each place one one.chances low) ∙ ap (λ (cs : List Chances). slice_index_or cs place one.chances) chances_are
 
-    module _ (unseen turns : ℕ) (chances : List Chances) (each : List DiscardChances) (unseen_is : unseen ≡ unseen_of drawn) (counted : AreAllCounted drawn hands places unseen turns chances) (kinds_are : told_kinds each ≡ kinds_of discards) (chances_are : told_chances each ≡ chances) where
+    module _ (unseen turns : ℕ) (chances : List Chances) (each : List DiscardChances) (unseen_is : unseen ≡ unseen_of drawn) (counted : AreAllCounted drawn hands places unseen turns chances) (kinds_are : told_kinds each ≡ discard_kinds discards) (chances_are : told_chances each ≡ chances) where
       pub after_all : AreAfter drawn turns each
       after_all = each_after unseen turns chances each unseen_is counted kinds_are chances_are (λ kind. AreChances (parts_without drawn kind) turns) (λ kind best one. of_discard kind best unseen turns one unseen_is)
 

@@ -20,12 +20,12 @@ use Rattle.riichi_shape.specs.declared.discard.ShortDiscard.{ShortDiscard}
 use Rattle.riichi_shape.proofs.Choices.{discards_are}
 use Rattle.riichi_deeper.proofs.DeeperLemmas.{has_copies, pair_at}
 use Rattle.riichi_deeper.specs.Drawn.{parts_with}
-use Rattle.riichi_chances.specs.Aims.{Aim, HasCounts, counted_in, draws_at, lack_of, least_of}
+use Rattle.riichi_chances.specs.Aims.{Aim, HasCounts, counted_in, draws_at, lack_of, floor_of}
 use Rattle.riichi_chances.specs.AtMost.{accepted_most, counted_most}
 use Rattle.riichi_chances.specs.Bests.{Follow}
 use Rattle.riichi_chances.specs.Counted.{accepts, counted_by, counted_draws, counted_rest, counted_with, accepted_draws, parts_less}
 use Rattle.riichi_chances.specs.Draws.{all_draws, greatest, is_there}
-use Rattle.riichi_chances.specs.Graph.{AreLeft, AreRests, kinds_of}
+use Rattle.riichi_chances.specs.Graph.{AreLeft, AreRests, discard_kinds}
 use Rattle.riichi_chances.specs.Numbers.{most_draws, unseen_at}
 use Rattle.riichi_chances.specs.declared.rows.Column.{Column}
 use Rattle.riichi_chances.specs.declared.rows.Column.TheVariants.{Ready, Win, ReadyAtMost, WinAtMost}
@@ -34,7 +34,7 @@ use Rattle.riichi_chances.proofs.SpanLemmas.{all_none, one_turn_more}
 
 -- the draws that begin with an accepted kind, where the hand itself has so many
 abbrev pub gains_in : Column → ℕ → ℕ → ShapeParts → ℕ → ℕ
-gains_in column unseen left parts own = sum_by (λ (pair : ℕ × ℕ). pair.1 * max (counted_with (lack_of column) unseen left (λ rest. counted_in column rest unseen left) (parts_with parts pair.0)) (least_of column own)) (accepts parts)
+gains_in column unseen left parts own = sum_by (λ (pair : ℕ × ℕ). pair.1 * max (counted_with (lack_of column) unseen left (λ rest. counted_in column rest unseen left) (parts_with parts pair.0)) (floor_of column own)) (accepts parts)
 
 abbrev pub gains_at : Aim → ShapeParts → ℕ → ℕ → ℕ
 gains_at aim parts left own = gains_in aim.column (unseen_at aim.span left) left parts own
@@ -141,7 +141,7 @@ few_in Win = counted_few 0
 few_in ReadyAtMost = upper_few 1
 few_in WinAtMost = upper_few 0
 
-pub least_few : (column : Column) (own : ℕ) → least_of column own ≤ own
+pub least_few : (column : Column) (own : ℕ) → floor_of column own ≤ own
 least_few Ready own = omega arith
 least_few Win own = omega arith
 least_few ReadyAtMost own = omega arith
@@ -152,7 +152,7 @@ pub gains_bound : (aim : Aim) (parts : ShapeParts) (live : ℕ) → aim.span.uns
 gains_bound aim parts live few some left own small =
     omega (
       arith,
-      pairs_few (λ kind. max (counted_with (lack_of aim.column) (unseen_at aim.span left) left (draws_at aim left) (parts_with parts kind)) (least_of aim.column own)) (most_draws left)
+      pairs_few (λ kind. max (counted_with (lack_of aim.column) (unseen_at aim.span left) left (draws_at aim left) (parts_with parts kind)) (floor_of aim.column own)) (most_draws left)
           (λ kind. omega (arith, with_few (lack_of aim.column) (unseen_at aim.span left) left (most_draws left) (draws_at aim left) (all_few (unseen_at aim.span left) left (omega (arith, few))) (λ rest. few_in aim.column left (unseen_at aim.span left) rest (omega (arith, few))) (parts_with parts kind), least_few aim.column own, small)) (accepts parts),
       times_few (live_in (accepts parts)) live (most_draws left) (most_draws left) some (omega arith),
     )
@@ -163,7 +163,7 @@ greatest_first : (value : ℕ → ℕ) (kind : ℕ) (kinds : List ℕ) → great
 unfolding greatest
 greatest_first value kind kinds = refl
 
-greatest_put : (value : ℕ → ℕ) (discard : Discard) (rest : List Discard) → greatest value (kinds_of (inserted discard rest)) ≡ max (value discard.kind) (greatest value (kinds_of rest))
+greatest_put : (value : ℕ → ℕ) (discard : Discard) (rest : List Discard) → greatest value (discard_kinds (inserted discard rest)) ≡ max (value discard.kind) (greatest value (discard_kinds rest))
 unfolding inserted_by
 greatest_put value discard [] = greatest_first value discard.kind []
 greatest_put value discard (next ∷ rest) = by_test (nat_le (live_with next) (live_with discard)) (greatest_put value discard rest)
@@ -171,18 +171,18 @@ greatest_put value discard (next ∷ rest) = by_test (nat_le (live_with next) (l
     swap : (a b c : ℕ) → max a (max b c) ≡ max b (max a c)
     swap a b c = omega arith
 
-    by_test : (t : Bool) → greatest value (kinds_of (inserted discard rest)) ≡ max (value discard.kind) (greatest value (kinds_of rest)) → greatest value (kinds_of (cond t (discard ∷ next ∷ rest) (next ∷ inserted discard rest))) ≡ max (value discard.kind) (greatest value (kinds_of (next ∷ rest)))
-    by_test true later = greatest_first value discard.kind (kinds_of (next ∷ rest))
+    by_test : (t : Bool) → greatest value (discard_kinds (inserted discard rest)) ≡ max (value discard.kind) (greatest value (discard_kinds rest)) → greatest value (discard_kinds (cond t (discard ∷ next ∷ rest) (next ∷ inserted discard rest))) ≡ max (value discard.kind) (greatest value (discard_kinds (next ∷ rest)))
+    by_test true later = greatest_first value discard.kind (discard_kinds (next ∷ rest))
     by_test false later =
-        greatest_first value next.kind (kinds_of (inserted discard rest)) ∙ ap (max (value next.kind)) later ∙ swap (value next.kind) (value discard.kind) (greatest value (kinds_of rest)) ∙ ap (max (value discard.kind)) (sym (greatest_first value next.kind (kinds_of rest)))
+        greatest_first value next.kind (discard_kinds (inserted discard rest)) ∙ ap (max (value next.kind)) later ∙ swap (value next.kind) (value discard.kind) (greatest value (discard_kinds rest)) ∙ ap (max (value discard.kind)) (sym (greatest_first value next.kind (discard_kinds rest)))
 
-greatest_ordered : (value : ℕ → ℕ) (hand : List ℕ) (melds : List Meld) (seen kinds : List ℕ) → greatest value (kinds_of (in_order (map (discard_of hand melds seen) kinds))) ≡ greatest value kinds
+greatest_ordered : (value : ℕ → ℕ) (hand : List ℕ) (melds : List Meld) (seen kinds : List ℕ) → greatest value (discard_kinds (in_order (map (discard_of hand melds seen) kinds))) ≡ greatest value kinds
 unfolding in_order
 greatest_ordered value hand melds seen [] = refl
 greatest_ordered value hand melds seen (kind ∷ kinds) =
     greatest_put value (discard_of hand melds seen kind) (in_order (map (discard_of hand melds seen) kinds)) ∙ ap (max (value kind)) (greatest_ordered value hand melds seen kinds) ∙ sym (greatest_first value kind kinds)
 
-greatest_discards : (value : ShapeParts → ℕ) (drawn : ShapeParts) → greatest (λ kind. value (parts_less drawn kind)) (kinds_of (discards_of drawn.tiles drawn.melds drawn.seen)) ≡ counted_rest value drawn
+greatest_discards : (value : ShapeParts → ℕ) (drawn : ShapeParts) → greatest (λ kind. value (parts_less drawn kind)) (discard_kinds (discards_of drawn.tiles drawn.melds drawn.seen)) ≡ counted_rest value drawn
 unfolding discards_of counted_rest
 greatest_discards value drawn = greatest_ordered (λ kind. value (parts_less drawn kind)) drawn.tiles drawn.melds drawn.seen (filter (is_discard drawn.tiles drawn.melds) every_kind)
 
@@ -197,16 +197,16 @@ greatest_left value at without (place ∷ places) (kind ∷ kinds) e =
     ap (λ n. max n (greatest (λ p. value (at p)) places)) (ap value here) ∙ ap (max (value (without kind))) (greatest_left value at without places kinds others)
 
 -- what stands at the places has the greatest value of a best discard
-pub left_rests : (hands : List (List ℕ)) (places : List ℕ) (drawn : ShapeParts) (discards : List Discard) → discards ≡ discards_of drawn.tiles drawn.melds drawn.seen → AreLeft hands places drawn.tiles (kinds_of discards) → AreRests hands places drawn
+pub left_rests : (hands : List (List ℕ)) (places : List ℕ) (drawn : ShapeParts) (discards : List Discard) → discards ≡ discards_of drawn.tiles drawn.melds drawn.seen → AreLeft hands places drawn.tiles (discard_kinds discards) → AreRests hands places drawn
 left_rests hands places drawn discards is left value =
-    greatest_left (λ tiles. value (record { tiles = tiles; melds = drawn.melds; seen = drawn.seen })) (λ place. slice_index_or hands place []) (without_one drawn.tiles) places (kinds_of discards) left
-    ∙ ap (λ (ds : List Discard). greatest (λ kind. value (parts_less drawn kind)) (kinds_of ds)) is ∙ greatest_discards value drawn
+    greatest_left (λ tiles. value (record { tiles = tiles; melds = drawn.melds; seen = drawn.seen })) (λ place. slice_index_or hands place []) (without_one drawn.tiles) places (discard_kinds discards) left
+    ∙ ap (λ (ds : List Discard). greatest (λ kind. value (parts_less drawn kind)) (discard_kinds ds)) is ∙ greatest_discards value drawn
 
 -- the kinds of one discard more
-pub kinds_more : (discards : List Discard) (at : ℕ) (short : ShortDiscard) → Some short ≡ option_map short_of (slice_get discards at) → kinds_of (take (at + 1) discards) ≡ kinds_of (take at discards) ++ short.kind ∷ []
+pub kinds_more : (discards : List Discard) (at : ℕ) (short : ShortDiscard) → Some short ≡ option_map short_of (slice_get discards at) → discard_kinds (take (at + 1) discards) ≡ discard_kinds (take at discards) ++ short.kind ∷ []
 kinds_more [] at short e = absurd (cc)
 kinds_more (discard ∷ rest) zero short e = let same : short ≡ short_of discard = cc in ap (λ (s : ShortDiscard). s.kind ∷ []) (sym same)
-kinds_more (discard ∷ rest) (suc at) short e = ap (λ n. kinds_of (take n (discard ∷ rest))) (one at) ∙ ap (λ (ks : List ℕ). discard.kind ∷ ks) (kinds_more rest at short e)
+kinds_more (discard ∷ rest) (suc at) short e = ap (λ n. discard_kinds (take n (discard ∷ rest))) (one at) ∙ ap (λ (ks : List ℕ). discard.kind ∷ ks) (kinds_more rest at short e)
   where
     one : (n : ℕ) → suc n + 1 ≡ suc (n + 1)
     one n = omega arith
@@ -222,12 +222,12 @@ best_at drawn discards place short is e =
     let found = found_at discards place short e in
     subst (LeavesLeast drawn.tiles drawn.melds) found.2 ((discards_are drawn.tiles drawn.melds drawn.seen found.0).0 (subst (λ (ds : List Discard). Contains ds found.0) is (Contains-in found.0 discards found.1))).0
 
-listed : (discards : List Discard) (place : ℕ) → place < length discards → (discard : Discard) × IsIn discard discards × (discard.kind ≡ slice_index (kinds_of discards) place)
+listed : (discards : List Discard) (place : ℕ) → place < length discards → (discard : Discard) × IsIn discard discards × (discard.kind ≡ slice_index (discard_kinds discards) place)
 listed [] place low = absurd (omega (arith, low))
 listed (discard ∷ rest) zero low = (discard, inl refl, refl)
 listed (discard ∷ rest) (suc place) low = let found = listed rest place (omega (arith, low)) in (found.0, inr found.1, found.2)
 
-pub best_listed : (drawn : ShapeParts) (discards : List Discard) (place : ℕ) → discards ≡ discards_of drawn.tiles drawn.melds drawn.seen → place < length discards → LeavesLeast drawn.tiles drawn.melds (slice_index (kinds_of discards) place)
+pub best_listed : (drawn : ShapeParts) (discards : List Discard) (place : ℕ) → discards ≡ discards_of drawn.tiles drawn.melds drawn.seen → place < length discards → LeavesLeast drawn.tiles drawn.melds (slice_index (discard_kinds discards) place)
 best_listed drawn discards place is low =
     let found = listed discards place low in
     subst (LeavesLeast drawn.tiles drawn.melds) found.2 ((discards_are drawn.tiles drawn.melds drawn.seen found.0).0 (subst (λ (ds : List Discard). Contains ds found.0) is (Contains-in found.0 discards found.1))).0
@@ -250,7 +250,7 @@ in_ordered item [] there = there
 in_ordered item (discard ∷ rest) (inl e) = in_put item discard (in_order rest) (inl e)
 in_ordered item (discard ∷ rest) (inr there) = in_put item discard (in_order rest) (inr (in_ordered item rest there))
 
-pub best_in : (drawn : ShapeParts) (kind : ℕ) → kind < 34 → is_discard drawn.tiles drawn.melds kind ≡ true → IsIn kind (kinds_of (discards_of drawn.tiles drawn.melds drawn.seen))
+pub best_in : (drawn : ShapeParts) (kind : ℕ) → kind < 34 → is_discard drawn.tiles drawn.melds kind ≡ true → IsIn kind (discard_kinds (discards_of drawn.tiles drawn.melds drawn.seen))
 unfolding discards_of
 best_in drawn kind low best =
     let made = discard_of drawn.tiles drawn.melds drawn.seen in

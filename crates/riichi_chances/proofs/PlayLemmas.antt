@@ -20,7 +20,7 @@ use Rattle.riichi_chances.specs.AtMost.{accepted_most, counted_most, most_by, mo
 use Rattle.riichi_chances.specs.Counted.{accepted_draws, accepts, counted_by, counted_draws, counted_rest, counted_with, parts_less}
 use Rattle.riichi_chances.specs.Draws.{all_draws, greatest, is_there, parts_passed, unseen_of}
 use Rattle.riichi_chances.specs.Laws.{MostLaw, PlayLaw}
-use Rattle.riichi_chances.specs.Plays.{Play, draws_by, parts_chosen, parts_played, played_behind}
+use Rattle.riichi_chances.specs.Plays.{DrawPlay, draws_by, parts_chosen, parts_played, played_behind}
 use Rattle.riichi_chances.proofs.BoundLemmas.{times_few}
 use Rattle.riichi_chances.proofs.CountedLemmas.{KnowsLacked, accepted_sum, counted_law, is_lacked, no_nearer, parts_of, passed_unseen, thrown_left, thrown_unseen}
 use Rattle.riichi_chances.proofs.CountingLemmas.{far_with, near_with}
@@ -64,7 +64,7 @@ one_less_few a b few = omega (arith, few)
 held_inside : (hand : List ℕ) (kind : ℕ) → length hand ≡ 34 → 0 < slice_index hand kind → kind < 34
 held_inside hand kind long held = ⊎_elim (λ low. low) (λ past. absurd (omega (arith, held, get_or_past hand kind 0 (omega (arith, long, past))))) (cases_lt kind 34)
 
-module _ (melds : List Meld) (melded : (kind : ℕ) → kind < 34 → tiles melds kind ≤ 4) (play : Play) (goal left : ℕ)
+module _ (melds : List Meld) (melded : (kind : ℕ) → kind < 34 → tiles melds kind ≤ 4) (play : DrawPlay) (goal left : ℕ)
     (later : (drawn hand seen told : List ℕ) (n : ℕ) → KnowsLacked NoMore hand melds seen told → n ≡ unseen_of (parts_of hand melds seen) → draws_by play drawn goal (parts_of hand melds seen) left ≤ counted_most goal (parts_of hand melds told) n left)
     (drawn hand seen told : List ℕ) (know : KnowsLacked NoMore hand melds seen told) (n : ℕ) (n_is : n ≡ unseen_of (parts_of hand melds seen)) (far : is_there goal (parts_of hand melds seen) ≡ false) where
   abbrev parts : ShapeParts
@@ -202,7 +202,7 @@ module _ (melds : List Meld) (melded : (kind : ℕ) → kind < 34 → tiles meld
         accepted_sum (most_by goal (n - 1) left value (parts_of hand melds told)) hand melds told,
       )
 
-module _ (melds : List Meld) (melded : (kind : ℕ) → kind < 34 → tiles melds kind ≤ 4) (play : Play) (goal : ℕ) where
+module _ (melds : List Meld) (melded : (kind : ℕ) → kind < 34 → tiles melds kind ≤ 4) (play : DrawPlay) (goal : ℕ) where
   pub plays_few : (turns : ℕ) (drawn hand seen told : List ℕ) (n : ℕ) → KnowsLacked NoMore hand melds seen told → n ≡ unseen_of (parts_of hand melds seen) → draws_by play drawn goal (parts_of hand melds seen) turns ≤ counted_most goal (parts_of hand melds told) n turns
   unfolding draws_by counted_most
   plays_few zero drawn hand seen told n know n_is = omega arith

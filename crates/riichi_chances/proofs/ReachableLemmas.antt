@@ -23,8 +23,8 @@ use Rattle.riichi_shape.proofs.Choices.{is_chosen}
 use Rattle.riichi_deeper.specs.Drawn.{parts_with, parts_without}
 use Rattle.riichi_chances.specs.Counted.{accepts, counted_rest, parts_less}
 use Rattle.riichi_chances.specs.Draws.{greatest, is_there}
-use Rattle.riichi_chances.specs.Graph.{AreBefore, AreLeft, IsGraph, IsNode, IsPlaceOf, draw_value, draws_value, kinds_of, placed_hand, rest_by, rests_value}
-use Rattle.riichi_chances.specs.Reachable.{AtFirst, ByStep, ComesToFew, ComesToMore, Group, IfTooMany, IsStep, IsWithin, MayCome, OnTooMany, RestsMayCome, alone, groups_of, together}
+use Rattle.riichi_chances.specs.Graph.{AreBefore, AreLeft, IsGraph, IsNode, IsPlaceOf, draw_value, draws_value, discard_kinds, placed_hand, rest_by, rests_value}
+use Rattle.riichi_chances.specs.Reachable.{AtFirst, ByStep, ComesToFew, ComesToMore, HandGroup, IfTooMany, IsStep, IsWithin, MayCome, OnTooMany, RestsMayCome, by_itself, groups_of, together}
 use Rattle.riichi_chances.specs.declared.fault.ChancesFault.{ChancesFault}
 use Rattle.riichi_chances.specs.declared.fault.ChancesFault.TheVariants.{Memory, TooManyHands}
 use Rattle.riichi_chances.specs.declared.graph.Draw.{Draw}
@@ -46,7 +46,7 @@ all_push P items item all here k d low = ⊎_elim at_last (λ ne. earlier (omega
     at_last : k ≡ length items → P (slice_index_or (items ++ item ∷ []) k d)
     at_last e = subst P (sym (get_or_push items item d k (sym e))) here
 
-pub all_more : (group : Group) (keys after : List (List ℕ)) (hand tiles : List ℕ) → after ≡ keys ++ hand ∷ [] → hand ≡ tiles → All (MayCome group) keys → MayCome group tiles → All (MayCome group) after
+pub all_more : (group : HandGroup) (keys after : List (List ℕ)) (hand tiles : List ℕ) → after ≡ keys ++ hand ∷ [] → hand ≡ tiles → All (MayCome group) keys → MayCome group tiles → All (MayCome group) after
 all_more group keys after hand tiles after_is hand_is each come = subst (λ (ks : List (List ℕ)). All (MayCome group) ks) (sym after_is) (all_push (MayCome group) keys hand each (subst (MayCome group) (sym hand_is) come))
 
 -- ---- a value that tells whether a hand is among some
@@ -150,7 +150,7 @@ module _ (root : ShapeParts) (graph : Graph) (is : IsGraph root graph) (place : 
 
 -- ---- all that may be come to stand there
 
-module _ (group : Group) (graph : Graph) (is : IsGraph group.root graph) (firsts : (hand : List ℕ) → Contains group.firsts hand → IsIn hand graph.hands.keys) where
+module _ (group : HandGroup) (graph : Graph) (is : IsGraph group.root graph) (firsts : (hand : List ℕ) → Contains group.firsts hand → IsIn hand graph.hands.keys) where
   all_stand : (hand : List ℕ) → MayCome group hand → IsIn hand graph.hands.keys
   all_stand hand (AtFirst _ there) = firsts hand there
   all_stand hand (ByStep before kind thrown come step) =
@@ -168,10 +168,10 @@ module _ (group : Group) (graph : Graph) (is : IsGraph group.root graph) (firsts
 
 -- ---- while the hands are taken
 
-pub within_drawn : (group : Group) (parts drawn : ShapeParts) (before after : Graph) → drawn.melds ≡ parts.melds → drawn.seen ≡ parts.seen → IsWithin group parts before → All (MayCome group) after.hands.keys → IsWithin group drawn after
+pub within_drawn : (group : HandGroup) (parts drawn : ShapeParts) (before after : Graph) → drawn.melds ≡ parts.melds → drawn.seen ≡ parts.seen → IsWithin group parts before → All (MayCome group) after.hands.keys → IsWithin group drawn after
 within_drawn group parts drawn before after melds_are seen_is inside each = record { melds = inside.melds ∙ sym melds_are; seen = inside.seen ∙ sym seen_is; each = each }
 
-pub rests_come : (group : Group) (parts drawn : ShapeParts) (graph : Graph) (kind place : ℕ) → IsWithin group parts graph → 1 < distance_of parts.tiles parts.melds → kind < 34 → is_accepted parts.tiles parts.melds parts.seen kind ≡ true → place ≡ kind → drawn ≡ parts_with parts place → MayCome group parts.tiles → RestsMayCome group drawn
+pub rests_come : (group : HandGroup) (parts drawn : ShapeParts) (graph : Graph) (kind place : ℕ) → IsWithin group parts graph → 1 < distance_of parts.tiles parts.melds → kind < 34 → is_accepted parts.tiles parts.melds parts.seen kind ≡ true → place ≡ kind → drawn ≡ parts_with parts place → MayCome group parts.tiles → RestsMayCome group drawn
 rests_come group parts drawn graph kind place inside far low accepted place_is drawn_is come thrown small best =
     subst (λ (tiles : List ℕ). MayCome group (without_one tiles thrown)) (sym (ap (λ (p : ShapeParts). p.tiles) as_drawn)) (ByStep parts.tiles kind thrown come (record {
       far = omega (arith, far, ap (distance_of parts.tiles) inside.melds);
@@ -198,29 +198,29 @@ too_many_then {A} {P} {Q} fault result is told many = subst (λ (r : Result A Ch
     as_many TooManyHands it = told it
     as_many Memory it = it
 
-pub more_as : (before after : ℕ) (group : Group) → after ≡ before → ComesToMore after group → ComesToMore before group
+pub more_as : (before after : ℕ) (group : HandGroup) → after ≡ before → ComesToMore after group → ComesToMore before group
 more_as before after group e = subst (λ n. ComesToMore n group) e
 
 pub on_ok_as : {A E P Q : Type 0} (result : Result A E) → (P → Q) → OnOk result P → OnOk result Q
 on_ok_as (Ok value) told it = told it
 on_ok_as (Err fault) told it = it
 
-pub rest_comes : (group : Group) (drawn rest : ShapeParts) (kind : ℕ) → rest ≡ parts_less drawn kind → LeavesLeast drawn.tiles drawn.melds kind → RestsMayCome group drawn → MayCome group rest.tiles
+pub rest_comes : (group : HandGroup) (drawn rest : ShapeParts) (kind : ℕ) → rest ≡ parts_less drawn kind → LeavesLeast drawn.tiles drawn.melds kind → RestsMayCome group drawn → MayCome group rest.tiles
 rest_comes group drawn rest kind rest_is best come = subst (MayCome group) (sym (ap (λ (p : ShapeParts). p.tiles) rest_is)) (come kind best.is_kind (is_chosen drawn.tiles drawn.melds kind best))
 
 -- ---- a hand by itself, and the hands that discards leave
 
-pub alone_few : (parts : ShapeParts) (graph : Graph) (place most : ℕ) → IsGraph parts graph → IsPlaceOf graph parts place → graph.most_hands ≡ most → ComesToFew most (alone parts)
-alone_few parts graph place most is there = comes_to_few (alone parts) graph is (λ hand first. at_first hand (in-Contains hand (parts.tiles ∷ []) first)) most
+pub alone_few : (parts : ShapeParts) (graph : Graph) (place most : ℕ) → IsGraph parts graph → IsPlaceOf graph parts place → graph.most_hands ≡ most → ComesToFew most (by_itself parts)
+alone_few parts graph place most is there = comes_to_few (by_itself parts) graph is (λ hand first. at_first hand (in-Contains hand (parts.tiles ∷ []) first)) most
   where
     at_first : (hand : List ℕ) → IsIn hand (parts.tiles ∷ []) → IsIn hand graph.hands.keys
     at_first hand (inl e) = subst (λ (tiles : List ℕ). IsIn tiles graph.hands.keys) (there.is ∙ e) (get_or-in graph.hands.keys place [] (omega (arith, there.inside, is.each)))
     at_first hand (inr none) = absurd none
 
-pub none_within : (group : Group) (parts : ShapeParts) (graph : Graph) → group.root.melds ≡ parts.melds → group.root.seen ≡ parts.seen → graph.hands.keys ≡ [] → IsWithin group parts graph
+pub none_within : (group : HandGroup) (parts : ShapeParts) (graph : Graph) → group.root.melds ≡ parts.melds → group.root.seen ≡ parts.seen → graph.hands.keys ≡ [] → IsWithin group parts graph
 none_within group parts graph melds_are seen_is none = record { melds = melds_are; seen = seen_is; each = subst (λ (keys : List (List ℕ)). All (MayCome group) keys) (sym none) (λ k d low. absurd (omega (arith, low))) }
 
-pub alone_comes : (parts : ShapeParts) → MayCome (alone parts) parts.tiles
+pub alone_comes : (parts : ShapeParts) → MayCome (by_itself parts) parts.tiles
 alone_comes parts = AtFirst parts.tiles (Contains-in parts.tiles (parts.tiles ∷ []) (inl refl))
 
 places_in : (keys : List (List ℕ)) (places : List ℕ) (hand : List ℕ) → AreBefore (length keys) places → IsIn hand (map (λ place. slice_index_or keys place []) places) → IsIn hand keys
@@ -229,61 +229,61 @@ places_in keys places hand before there =
     let at = Contains-in found.0 places found.1 in
     subst (λ (tiles : List ℕ). IsIn tiles keys) found.2 (get_or-in keys found.0 [] (omega (arith, before at.0 at.1, get_or_default places at.0 0 found.0 at.1, at.2)))
 
-pub together_few : (drawn : ShapeParts) (graph : Graph) (places : List ℕ) (discards : List Discard) (most : ℕ) → IsGraph drawn graph → AreBefore (length graph.nodes.items) places → discards ≡ discards_of drawn.tiles drawn.melds drawn.seen → AreLeft graph.hands.keys places drawn.tiles (kinds_of discards) → graph.most_hands ≡ most → ComesToFew most (together drawn)
+pub together_few : (drawn : ShapeParts) (graph : Graph) (places : List ℕ) (discards : List Discard) (most : ℕ) → IsGraph drawn graph → AreBefore (length graph.nodes.items) places → discards ≡ discards_of drawn.tiles drawn.melds drawn.seen → AreLeft graph.hands.keys places drawn.tiles (discard_kinds discards) → graph.most_hands ≡ most → ComesToFew most (together drawn)
 together_few drawn graph places discards most is before discards_is left = comes_to_few (together drawn) graph is
     (λ hand first. places_in graph.hands.keys places hand (λ k low. omega (arith, before k low, is.each))
-    (subst (λ (hands : List (List ℕ)). IsIn hand hands) (sym (left ∙ ap (λ (ds : List Discard). map (without_one drawn.tiles) (kinds_of ds)) discards_is)) (in-Contains hand (together drawn).firsts first))) most
+    (subst (λ (hands : List (List ℕ)). IsIn hand hands) (sym (left ∙ ap (λ (ds : List Discard). map (without_one drawn.tiles) (discard_kinds ds)) discards_is)) (in-Contains hand (together drawn).firsts first))) most
 
 pub together_come : (drawn : ShapeParts) → RestsMayCome (together drawn) drawn
 together_come drawn thrown low best =
-    AtFirst (without_one drawn.tiles thrown) (Contains-in (without_one drawn.tiles thrown) (map (without_one drawn.tiles) (kinds_of (discards_of drawn.tiles drawn.melds drawn.seen))) (in-map (without_one drawn.tiles) thrown (kinds_of (discards_of drawn.tiles drawn.melds drawn.seen)) (best_in drawn thrown low best)))
+    AtFirst (without_one drawn.tiles thrown) (Contains-in (without_one drawn.tiles thrown) (map (without_one drawn.tiles) (discard_kinds (discards_of drawn.tiles drawn.melds drawn.seen))) (in-map (without_one drawn.tiles) thrown (discard_kinds (discards_of drawn.tiles drawn.melds drawn.seen)) (best_in drawn thrown low best)))
 
 -- ---- one discard more
 
 module _ (discards : List Discard) (at : ℕ) (short : ShortDiscard) (found : Some short ≡ option_map short_of (slice_get discards at)) where
-  pub each_more : (P : ℕ → Type 0) → ((kind : ℕ) → IsIn kind (kinds_of (take at discards)) → P kind) → P short.kind → (kind : ℕ) → IsIn kind (kinds_of (take (at + 1) discards)) → P kind
-  each_more P before here kind there = by_case (in-cases kind (kinds_of (take at discards)) (short.kind ∷ []) (subst (IsIn kind) (kinds_more discards at short found) there))
+  pub each_more : (P : ℕ → Type 0) → ((kind : ℕ) → IsIn kind (discard_kinds (take at discards)) → P kind) → P short.kind → (kind : ℕ) → IsIn kind (discard_kinds (take (at + 1) discards)) → P kind
+  each_more P before here kind there = by_case (in-cases kind (discard_kinds (take at discards)) (short.kind ∷ []) (subst (IsIn kind) (kinds_more discards at short found) there))
     where
-      by_case : IsIn kind (kinds_of (take at discards)) ⊎ IsIn kind (short.kind ∷ []) → P kind
+      by_case : IsIn kind (discard_kinds (take at discards)) ⊎ IsIn kind (short.kind ∷ []) → P kind
       by_case (inl earlier) = before kind earlier
       by_case (inr (inl e)) = subst P e here
       by_case (inr (inr none)) = absurd none
 
-  pub kind_found : Contains (kinds_of discards) short.kind
+  pub kind_found : Contains (discard_kinds discards) short.kind
   kind_found =
       let listed = found_at discards at short found in
-      Contains-in short.kind (kinds_of discards) (subst (λ kind. IsIn kind (kinds_of discards)) listed.2 (in-map (λ (discard : Discard). discard.kind) listed.0 discards listed.1))
+      Contains-in short.kind (discard_kinds discards) (subst (λ kind. IsIn kind (discard_kinds discards)) listed.2 (in-map (λ (discard : Discard). discard.kind) listed.0 discards listed.1))
 
 -- ---- the groups of fourteen tiles
 
 module _ (drawn : ShapeParts) (discards : List Discard) (discards_is : discards ≡ discards_of drawn.tiles drawn.melds drawn.seen) (most : ℕ) where
   module _ (won : is_there 0 drawn ≡ true) where
-    abbrev of_kind : ℕ → Group
-    of_kind kind = alone (parts_without drawn kind)
+    abbrev of_kind : ℕ → HandGroup
+    of_kind kind = by_itself (parts_without drawn kind)
 
-    by_one : groups_of drawn ≡ map of_kind (kinds_of discards)
-    by_one = ap (λ t. cond t (map of_kind (kinds_of (discards_of drawn.tiles drawn.melds drawn.seen))) (together drawn ∷ [])) won ∙ ap (λ (ds : List Discard). map of_kind (kinds_of ds)) (sym discards_is)
+    by_one : groups_of drawn ≡ map of_kind (discard_kinds discards)
+    by_one = ap (λ t. cond t (map of_kind (discard_kinds (discards_of drawn.tiles drawn.melds drawn.seen))) (together drawn ∷ [])) won ∙ ap (λ (ds : List Discard). map of_kind (discard_kinds ds)) (sym discards_is)
 
-    pub few_by_one : ((kind : ℕ) → Contains (kinds_of discards) kind → ComesToFew most (alone (parts_without drawn kind))) → All (ComesToFew most) (groups_of drawn)
-    few_by_one few = subst (λ (groups : List Group). All (ComesToFew most) groups) (sym by_one) (All-in (ComesToFew most) (map of_kind (kinds_of discards)) each)
+    pub few_by_one : ((kind : ℕ) → Contains (discard_kinds discards) kind → ComesToFew most (by_itself (parts_without drawn kind))) → All (ComesToFew most) (groups_of drawn)
+    few_by_one few = subst (λ (groups : List HandGroup). All (ComesToFew most) groups) (sym by_one) (All-in (ComesToFew most) (map of_kind (discard_kinds discards)) each)
       where
-        each : (group : Group) → IsIn group (map of_kind (kinds_of discards)) → ComesToFew most group
-        each group there = let found = in-map-inv of_kind group (kinds_of discards) there in subst (ComesToFew most) found.2 (few found.0 (Contains-in found.0 (kinds_of discards) found.1))
+        each : (group : HandGroup) → IsIn group (map of_kind (discard_kinds discards)) → ComesToFew most group
+        each group there = let found = in-map-inv of_kind group (discard_kinds discards) there in subst (ComesToFew most) found.2 (few found.0 (Contains-in found.0 (discard_kinds discards) found.1))
 
-    pub many_by_one : (kind : ℕ) × Contains (kinds_of discards) kind × ComesToMore most (alone (parts_without drawn kind)) → (group : Group) × Contains (groups_of drawn) group × ComesToMore most group
+    pub many_by_one : (kind : ℕ) × Contains (discard_kinds discards) kind × ComesToMore most (by_itself (parts_without drawn kind)) → (group : HandGroup) × Contains (groups_of drawn) group × ComesToMore most group
     many_by_one found =
-        (of_kind found.0, subst (λ (groups : List Group). Contains groups (of_kind found.0)) (sym by_one) (Contains-in (of_kind found.0) (map of_kind (kinds_of discards)) (in-map of_kind found.0 (kinds_of discards) (in-Contains found.0 (kinds_of discards) found.1))), found.2)
+        (of_kind found.0, subst (λ (groups : List HandGroup). Contains groups (of_kind found.0)) (sym by_one) (Contains-in (of_kind found.0) (map of_kind (discard_kinds discards)) (in-map of_kind found.0 (discard_kinds discards) (in-Contains found.0 (discard_kinds discards) found.1))), found.2)
 
   module _ (not_won : is_there 0 drawn ≡ false) where
     all_one : groups_of drawn ≡ together drawn ∷ []
-    all_one = ap (λ t. cond t (map (λ kind. alone (parts_without drawn kind)) (kinds_of (discards_of drawn.tiles drawn.melds drawn.seen))) (together drawn ∷ [])) not_won
+    all_one = ap (λ t. cond t (map (λ kind. by_itself (parts_without drawn kind)) (discard_kinds (discards_of drawn.tiles drawn.melds drawn.seen))) (together drawn ∷ [])) not_won
 
     pub few_in_all : ComesToFew most (together drawn) → All (ComesToFew most) (groups_of drawn)
-    few_in_all few = subst (λ (groups : List Group). All (ComesToFew most) groups) (sym all_one) (All-in (ComesToFew most) (together drawn ∷ []) each)
+    few_in_all few = subst (λ (groups : List HandGroup). All (ComesToFew most) groups) (sym all_one) (All-in (ComesToFew most) (together drawn ∷ []) each)
       where
-        each : (group : Group) → IsIn group (together drawn ∷ []) → ComesToFew most group
+        each : (group : HandGroup) → IsIn group (together drawn ∷ []) → ComesToFew most group
         each group (inl e) = subst (ComesToFew most) e few
         each group (inr none) = absurd none
 
-    pub many_in_all : ComesToMore most (together drawn) → (group : Group) × Contains (groups_of drawn) group × ComesToMore most group
-    many_in_all many = (together drawn, subst (λ (groups : List Group). Contains groups (together drawn)) (sym all_one) (Contains-in (together drawn) (together drawn ∷ []) (inl refl)), many)
+    pub many_in_all : ComesToMore most (together drawn) → (group : HandGroup) × Contains (groups_of drawn) group × ComesToMore most group
+    many_in_all many = (together drawn, subst (λ (groups : List HandGroup). Contains groups (together drawn)) (sym all_one) (Contains-in (together drawn) (together drawn ∷ []) (inl refl)), many)

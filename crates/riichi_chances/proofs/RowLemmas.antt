@@ -19,7 +19,7 @@ use Rattle.riichi_shape.proofs.ReadyLemmas.{ready_is}
 use Rattle.riichi_shape.proofs.RemovalLemmas.{chosen_is}
 use Rattle.riichi_deeper.proofs.DrawnLemmas.{size_with}
 use Rattle.riichi_deeper.specs.Drawn.{parts_with}
-use Rattle.riichi_chances.specs.Aims.{Aim, HasCounts, HasRows, draws_at, lack_of, least_of, numbers_for}
+use Rattle.riichi_chances.specs.Aims.{Aim, HasCounts, HasRows, draws_at, lack_of, floor_of, numbers_for}
 use Rattle.riichi_chances.specs.Bests.{AreBests, BeginFew, FollowBests, FollowReady, best_value, bests_value}
 use Rattle.riichi_chances.specs.Counted.{accepts, counted_rest, counted_with, parts_less}
 use Rattle.riichi_chances.specs.Draws.{all_draws, greatest, is_there}
@@ -47,17 +47,17 @@ module _ (column : Column) (span : Span) (live : ℕ) (unseen : span.unseen ≤ 
   abbrev wins : List Best
   wins = (record { live = live; rows = rows }) ∷ []
 
-  wins_value : (left own : ℕ) → left < span.turns → bests_value column left (least_of column own) wins ≡ live * max (all_draws (unseen_at span left) left) (least_of column own)
+  wins_value : (left own : ℕ) → left < span.turns → bests_value column left (floor_of column own) wins ≡ live * max (all_draws (unseen_at span left) left) (floor_of column own)
   wins_value left own low =
-      sum_by-cons (best_value column left (least_of column own)) (record { live = live; rows = rows }) [] ∙ none (live * max (slice_index (numbers_for column rows) left) (least_of column own))
-      ∙ ap (λ n. live * max n (least_of column own)) (ap (λ (ns : List ℕ). slice_index ns left) rows_are ∙ are left (omega (arith, low)))
+      sum_by-cons (best_value column left (floor_of column own)) (record { live = live; rows = rows }) [] ∙ none (live * max (slice_index (numbers_for column rows) left) (floor_of column own))
+      ∙ ap (λ n. live * max n (floor_of column own)) (ap (λ (ns : List ℕ). slice_index ns left) rows_are ∙ are left (omega (arith, low)))
     where
       none : (n : ℕ) → n + 0 ≡ n
       none n = omega arith
 
   pub ready_begin : BeginFew column span live wins
   ready_begin left own low small =
-      omega (arith, wins_value left own low, times_few live live (max (all_draws (unseen_at span left) left) (least_of column own)) (most_draws left) (omega arith) (omega (arith, all_few (unseen_at span left) left (omega (arith, unseen)), least_few column own, small)))
+      omega (arith, wins_value left own low, times_few live live (max (all_draws (unseen_at span left) left) (floor_of column own)) (most_draws left) (omega arith) (omega (arith, all_few (unseen_at span left) left (omega (arith, unseen)), least_few column own, small)))
 
   pub ready_follow : (row : List ℕ) → FollowBests column span live wins row → FollowReady column span live row
   ready_follow row follows = record {
@@ -233,9 +233,9 @@ lack_few ReadyAtMost = omega arith
 lack_few WinAtMost = omega arith
 
 -- a hand that isn't ready: each draw that it accepts leads to what a best discard leaves
-pub rests_gains : (aim : Aim) (parts : ShapeParts) (left own : ℕ) → IsThirteen parts → 1 < distance_of parts.tiles parts.melds → rests_value (draws_at aim left) (least_of aim.column own) parts ≡ gains_at aim parts left own
+pub rests_gains : (aim : Aim) (parts : ShapeParts) (left own : ℕ) → IsThirteen parts → 1 < distance_of parts.tiles parts.melds → rests_value (draws_at aim left) (floor_of aim.column own) parts ≡ gains_at aim parts left own
 rests_gains aim parts left own is far =
-    sum_same (rest_by (draws_at aim left) (least_of aim.column own) parts) (λ (pair : ℕ × ℕ). pair.1 * max (counted_with (lack_of aim.column) (unseen_at aim.span left) left (draws_at aim left) (parts_with parts pair.0)) (least_of aim.column own)) (accepts parts) (λ pair there. ap (λ n. pair.1 * max n (least_of aim.column own)) (sym (each pair there)))
+    sum_same (rest_by (draws_at aim left) (floor_of aim.column own) parts) (λ (pair : ℕ × ℕ). pair.1 * max (counted_with (lack_of aim.column) (unseen_at aim.span left) left (draws_at aim left) (parts_with parts pair.0)) (floor_of aim.column own)) (accepts parts) (λ pair there. ap (λ n. pair.1 * max n (floor_of aim.column own)) (sym (each pair there)))
   where
     each : (pair : ℕ × ℕ) → IsIn pair (accepts parts) → counted_with (lack_of aim.column) (unseen_at aim.span left) left (draws_at aim left) (parts_with parts pair.0) ≡ counted_rest (draws_at aim left) (parts_with parts pair.0)
     each pair there =
@@ -244,11 +244,11 @@ rests_gains aim parts left own is far =
         (omega (arith, far, one_nearer parts.tiles parts.melds (few_melds parts is) is.melded is.each_kind pair.0 inside)) aim left
 
 -- a ready hand wins by each
-ready_gains : (aim : Aim) (parts : ShapeParts) (left own : ℕ) → lack_of aim.column ≡ 0 → IsThirteen parts → nat_le (distance_of parts.tiles parts.melds) 1 ≡ true → live_in (accepts parts) * max (all_draws (unseen_at aim.span left) left) (least_of aim.column own) ≡ gains_at aim parts left own
+ready_gains : (aim : Aim) (parts : ShapeParts) (left own : ℕ) → lack_of aim.column ≡ 0 → IsThirteen parts → nat_le (distance_of parts.tiles parts.melds) 1 ≡ true → live_in (accepts parts) * max (all_draws (unseen_at aim.span left) left) (floor_of aim.column own) ≡ gains_at aim parts left own
 ready_gains aim parts left own none is ready =
-    sym (sum_times (max (all_draws (unseen_at aim.span left) left) (least_of aim.column own)) (accepts parts))
-    ∙ sum_same (λ (pair : ℕ × ℕ). pair.1 * max (all_draws (unseen_at aim.span left) left) (least_of aim.column own)) (λ (pair : ℕ × ℕ). pair.1 * max (counted_with (lack_of aim.column) (unseen_at aim.span left) left (draws_at aim left) (parts_with parts pair.0)) (least_of aim.column own)) (accepts parts)
-    (λ pair there. ap (λ n. pair.1 * max n (least_of aim.column own)) (sym (near_with (lack_of aim.column) (unseen_at aim.span left) left (draws_at aim left) (parts_with parts pair.0) (won_by pair there))))
+    sym (sum_times (max (all_draws (unseen_at aim.span left) left) (floor_of aim.column own)) (accepts parts))
+    ∙ sum_same (λ (pair : ℕ × ℕ). pair.1 * max (all_draws (unseen_at aim.span left) left) (floor_of aim.column own)) (λ (pair : ℕ × ℕ). pair.1 * max (counted_with (lack_of aim.column) (unseen_at aim.span left) left (draws_at aim left) (parts_with parts pair.0)) (floor_of aim.column own)) (accepts parts)
+    (λ pair there. ap (λ n. pair.1 * max n (floor_of aim.column own)) (sym (near_with (lack_of aim.column) (unseen_at aim.span left) left (draws_at aim left) (parts_with parts pair.0) (won_by pair there))))
   where
     won_by : (pair : ℕ × ℕ) → IsIn pair (accepts parts) → is_there (lack_of aim.column) (parts_with parts pair.0) ≡ true
     won_by pair there = ap (nat_le (distance_of (with_one parts.tiles pair.0) parts.melds)) none ∙ won (distance_of (with_one parts.tiles pair.0) parts.melds) (omega (arith, (accepted_in parts pair there).1, is_ready_told (distance_of parts.tiles parts.melds) ready))
@@ -256,8 +256,8 @@ ready_gains aim parts left own none is ready =
 module _ (span : Span) (parts : ShapeParts) (live : ℕ) (is : IsThirteen parts) (ready : nat_le (distance_of parts.tiles parts.melds) 1 ≡ true) (live_is : live ≡ live_in (accepts parts)) where
   wins_by : (column : Column) → lack_of column ≡ 0 → (row : List ℕ) → FollowReady column span live row → HasCounts (record { column = column; span = span }) parts row
   wins_by column none row follows =
-      followed (record { column = column; span = span }) parts (ap (nat_le (distance_of parts.tiles parts.melds)) none ∙ not_won (distance_of parts.tiles parts.melds) (some_lack parts is)) live live_is (λ l own. live * max (all_draws (unseen_at span l) l) (least_of column own)) row
-      (λ l own small. ap (λ n. n * max (all_draws (unseen_at span l) l) (least_of column own)) live_is ∙ ready_gains (record { column = column; span = span }) parts l own none is ready) follows
+      followed (record { column = column; span = span }) parts (ap (nat_le (distance_of parts.tiles parts.melds)) none ∙ not_won (distance_of parts.tiles parts.melds) (some_lack parts is)) live live_is (λ l own. live * max (all_draws (unseen_at span l) l) (floor_of column own)) row
+      (λ l own small. ap (λ n. n * max (all_draws (unseen_at span l) l) (floor_of column own)) live_is ∙ ready_gains (record { column = column; span = span }) parts l own none is ready) follows
 
   pub ready_has : (rows : Rows) → AreAllDraws span rows.ready → AreAllDraws span rows.ready_at_most → FollowReady Win span live rows.win → FollowReady WinAtMost span live rows.win_at_most → HasRows span parts rows
   ready_has rows all most wins most_wins Ready left low = all left low ∙ sym (near_in Ready parts (unseen_at span left) left ready)
@@ -278,18 +278,18 @@ module _ (span : Span) (turns : span.turns ≤ 18) (unseen : span.unseen ≤ 136
   far_away = omega (arith, leb-false (distance_of parts.tiles parts.melds) 1 (sym is.ready ∙ not_ready))
 
   module _ (bests : List Best) (bests_are : AreBests span.turns earlier node.draws.items bests) where
-    gains_told : (column : Column) (left own : ℕ) → left < span.turns → bests_value column left (least_of column own) bests ≡ gains_at (aim_of column) parts left own
+    gains_told : (column : Column) (left own : ℕ) → left < span.turns → bests_value column left (floor_of column own) bests ≡ gains_at (aim_of column) parts left own
     gains_told column left own low =
-        bests_are column left (least_of column own) low
-        ∙ draws_same (placed_number column earlier left) (λ p. draws_at (aim_of column) left (placed_hand parts hands p)) (least_of column own) place node.draws.items is.before (λ p small. are p (omega (arith, small, all_before)) column left (omega (arith, low)))
-        ∙ is.leads not_ready (draws_at (aim_of column) left) (least_of column own) ∙ rests_gains (aim_of column) parts left own is.whole far_away
+        bests_are column left (floor_of column own) low
+        ∙ draws_same (placed_number column earlier left) (λ p. draws_at (aim_of column) left (placed_hand parts hands p)) (floor_of column own) place node.draws.items is.before (λ p small. are p (omega (arith, small, all_before)) column left (omega (arith, low)))
+        ∙ is.leads not_ready (draws_at (aim_of column) left) (floor_of column own) ∙ rests_gains (aim_of column) parts left own is.whole far_away
 
     pub begin_few : (column : Column) → BeginFew column span node.live bests
     begin_few column left own low small = omega (arith, gains_told column left own low, gains_bound (aim_of column) parts node.live unseen (omega (arith, is.live)) left own small)
 
     pub followed_rows : (rows : Rows) → ((column : Column) → FollowBests column span node.live bests (numbers_for column rows)) → HasRows span parts rows
     followed_rows rows follows column =
-        followed (aim_of column) parts (not_near (distance_of parts.tiles parts.melds) (lack_of column) far_away (lack_few column)) node.live is.live (λ left own. bests_value column left (least_of column own) bests) (numbers_for column rows) (gains_told column) (follows column)
+        followed (aim_of column) parts (not_near (distance_of parts.tiles parts.melds) (lack_of column) far_away (lack_few column)) node.live is.live (λ left own. bests_value column left (floor_of column own) bests) (numbers_for column rows) (gains_told column) (follows column)
 
 pub node_at : (root : ShapeParts) (graph : Graph) (place : ℕ) (node : Node) → IsGraph root graph → place < length graph.nodes.items → node ≡ slice_index_or graph.nodes.items place node → IsNode graph.hands.keys place (placed_hand root graph.hands.keys place) node
 node_at root graph place node is inside node_is = subst (λ (it : Node). IsNode graph.hands.keys place (placed_hand root graph.hands.keys place) it) (sym node_is) (is.node place node inside)

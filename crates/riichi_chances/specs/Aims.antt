@@ -17,11 +17,11 @@ lack_of ReadyAtMost = 1
 lack_of WinAtMost = 0
 
 -- the least number that counts for what an accepted tile leads to, where the hand itself has so many
-abbrev pub least_of : Column → ℕ → ℕ
-least_of Ready own = 0
-least_of Win own = 0
-least_of ReadyAtMost own = own
-least_of WinAtMost own = own
+abbrev pub floor_of : Column → ℕ → ℕ
+floor_of Ready own = 0
+floor_of Win own = 0
+floor_of ReadyAtMost own = own
+floor_of WinAtMost own = own
 
 -- the draws that are reached, or the upper end
 abbrev pub counted_in : Column → ShapeParts → ℕ → ℕ → ℕ

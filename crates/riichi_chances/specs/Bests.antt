@@ -1,6 +1,6 @@
 -- What the draws of a hand lead to at best.
 use Rattle.std.specs.Prelude.{◌≡◌, ℕ, ◌+◌, ◌-◌, ◌*◌, ◌<◌, ◌≤◌, max, List, slice_index, sum_by}
-use Rattle.riichi_chances.specs.Aims.{least_of, numbers_for}
+use Rattle.riichi_chances.specs.Aims.{floor_of, numbers_for}
 use Rattle.riichi_chances.specs.Draws.{all_draws}
 use Rattle.riichi_chances.specs.Graph.{draws_value, placed_number}
 use Rattle.riichi_chances.specs.Numbers.{most_draws, unseen_at}
@@ -24,7 +24,7 @@ AreBests turns earlier draws bests =
 
 -- no more than so many tiles begin them
 abbrev pub BeginFew : Column → Span → ℕ → List Best → Type 0
-BeginFew column span live bests = (left own : ℕ) → left < span.turns → own ≤ most_draws left → bests_value column left (least_of column own) bests ≤ live * most_draws left
+BeginFew column span live bests = (left own : ℕ) → left < span.turns → own ≤ most_draws left → bests_value column left (floor_of column own) bests ≤ live * most_draws left
 
 -- where the first tile isn't one of so many, the draws of the turns behind it, and those that begin with one of them
 pub record Follow (span : Span) (live : ℕ) (begun : ℕ → ℕ → ℕ) (numbers : List ℕ) : Type 0 where
@@ -32,8 +32,8 @@ pub record Follow (span : Span) (live : ℕ) (begun : ℕ → ℕ → ℕ) (numb
   pub more : (left : ℕ) → left < span.turns → slice_index numbers (left + 1) ≡ (unseen_at span (left + 1) - live) * slice_index numbers left + begun left (slice_index numbers left)
 
 abbrev pub FollowBests : Column → Span → ℕ → List Best → List ℕ → Type 0
-FollowBests column span live bests = Follow span live (λ left own. bests_value column left (least_of column own) bests)
+FollowBests column span live bests = Follow span live (λ left own. bests_value column left (floor_of column own) bests)
 
 -- where the hand is ready, so that any of so many live tiles wins
 abbrev pub FollowReady : Column → Span → ℕ → List ℕ → Type 0
-FollowReady column span live = Follow span live (λ left own. live * max (all_draws (unseen_at span left) left) (least_of column own))
+FollowReady column span live = Follow span live (λ left own. live * max (all_draws (unseen_at span left) left) (floor_of column own))

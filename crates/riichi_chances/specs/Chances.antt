@@ -4,7 +4,7 @@ use Rattle.riichi_hand.specs.HandParts.{ShapeParts}
 use Rattle.riichi_chances.specs.AtMost.{counted_most}
 use Rattle.riichi_chances.specs.Counted.{counted_draws, parts_less}
 use Rattle.riichi_chances.specs.Draws.{all_draws, draws, is_there, unseen_of}
-use Rattle.riichi_chances.specs.Plays.{Play, draws_by}
+use Rattle.riichi_chances.specs.Plays.{DrawPlay, draws_by}
 use Rattle.riichi_chances.specs.Graph.{placed_hand}
 use Rattle.riichi_deeper.specs.Drawn.{parts_without}
 use Rattle.riichi_chances.specs.declared.chances.Chances.{Chances}
@@ -46,8 +46,8 @@ pub record AreAtMost (parts : ShapeParts) (unseen turns : ℕ) (chances : Chance
 
 -- no play that keeps only what brings the hand nearer has more draws than the upper ends
 pub record IsNoPlayAbove (parts : ShapeParts) (turns : ℕ) (chances : Chances) : Type 0 where
-  pub ready : (play : Play) (count : ℕ) → count ≤ turns → draws_by play [] 1 parts count ≤ slice_index chances.ready_at_most count
-  pub win : (play : Play) (count : ℕ) → count ≤ turns → draws_by play [] 0 parts count ≤ slice_index chances.win_at_most count
+  pub ready : (play : DrawPlay) (count : ℕ) → count ≤ turns → draws_by play [] 1 parts count ≤ slice_index chances.ready_at_most count
+  pub win : (play : DrawPlay) (count : ℕ) → count ≤ turns → draws_by play [] 0 parts count ≤ slice_index chances.win_at_most count
   pub ready_reached : (count : ℕ) → count ≤ turns → slice_index chances.ready count ≤ slice_index chances.ready_at_most count
   pub win_reached : (count : ℕ) → count ≤ turns → slice_index chances.win count ≤ slice_index chances.win_at_most count
 
@@ -77,8 +77,8 @@ pub record IsTold (turns : ℕ) (rows : Rows) (number : ℕ) (before after : Cha
   pub all : after.all ≡ slice_set before.all turns number
 
 -- the same for the hands at some places
-abbrev pub AreTold : ℕ → List ℕ → List Rows → ℕ → List Chances → List Chances → Type 0
-AreTold turns places rows all before after =
+abbrev pub AreAllTold : ℕ → List ℕ → List Rows → ℕ → List Chances → List Chances → Type 0
+AreAllTold turns places rows all before after =
     (at : ℕ) (row : Rows) (chances : Chances) → at < length places → IsTold turns (slice_index_or rows (slice_index places at) row) all (slice_index_or before at chances) (slice_index_or after at chances)
 
 abbrev pub AreAllCounted : ShapeParts → List (List ℕ) → List ℕ → ℕ → ℕ → List Chances → Type 0

@@ -49,8 +49,8 @@ abbrev pub LeadTo : List (List ℕ) → List Draw → ShapeParts → Type 0
 LeadTo hands draws parts = (value : ShapeParts → ℕ) (least : ℕ) → draws_value (λ place. value (placed_hand parts hands place)) least draws ≡ rests_value value least parts
 
 -- the kinds of some discards
-abbrev pub kinds_of : List Discard → List ℕ
-kinds_of discards = map (λ discard. discard.kind) discards
+abbrev pub discard_kinds : List Discard → List ℕ
+discard_kinds discards = map (λ discard. discard.kind) discards
 
 -- at the places, one after the other, stand the hands that tiles leave once one of the kinds is thrown
 abbrev pub AreLeft : List (List ℕ) → List ℕ → List ℕ → List ℕ → Type 0

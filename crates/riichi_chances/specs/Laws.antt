@@ -6,7 +6,7 @@ use Rattle.riichi_tiles.specs.Melds.{tiles}
 use Rattle.riichi_chances.specs.AtMost.{counted_most}
 use Rattle.riichi_chances.specs.Counted.{counted_draws}
 use Rattle.riichi_chances.specs.Draws.{all_draws, draws, unseen_of}
-use Rattle.riichi_chances.specs.Plays.{Play, draws_by}
+use Rattle.riichi_chances.specs.Plays.{DrawPlay, draws_by}
 
 -- thirteen tiles with their melds, and a count of each kind for what is seen
 pub record IsThirteen (parts : ShapeParts) : Type 0 where
@@ -32,7 +32,7 @@ ChanceLaw = (goal : ℕ) (parts : ShapeParts) (turns : ℕ) → IsThirteen parts
 
 -- no play of those that keep only what brings the hand nearer brings it there in more draws than the upper end
 abbrev pub PlayLaw : Type 0
-PlayLaw = (play : Play) (goal : ℕ) (parts : ShapeParts) (turns : ℕ) → IsThirteen parts → draws_by play [] goal parts turns ≤ counted_most goal parts (unseen_of parts) turns
+PlayLaw = (play : DrawPlay) (goal : ℕ) (parts : ShapeParts) (turns : ℕ) → IsThirteen parts → draws_by play [] goal parts turns ≤ counted_most goal parts (unseen_of parts) turns
 
 -- nor does the play that the draws are counted by
 abbrev pub MostLaw : Type 0

@@ -10,8 +10,8 @@ use Rattle.riichi_chances.specs.Draws.{all_draws, is_there, parts_passed, unseen
 
 -- what is done with a tile that brings the hand nearer, by the kinds that were drawn, the last first, and its own kind: it is
 -- thrown at once, or kept, and a tile of some kind is thrown for it
-abbrev pub Play : Type 0
-Play = List ℕ → ℕ → Option ℕ
+abbrev pub DrawPlay : Type 0
+DrawPlay = List ℕ → ℕ → Option ℕ
 
 -- only a best discard is made
 abbrev pub parts_chosen : Option ℕ → ShapeParts → ℕ → ShapeParts
@@ -19,15 +19,15 @@ parts_chosen None parts kind = parts_passed parts kind
 parts_chosen (Some thrown) parts kind = if is_discard (with_one parts.tiles kind) parts.melds thrown then parts_without (parts_with parts kind) thrown else parts_passed parts kind
 
 -- any other tile is thrown at once
-abbrev pub parts_played : Play → List ℕ → ShapeParts → ℕ → ShapeParts
+abbrev pub parts_played : DrawPlay → List ℕ → ShapeParts → ℕ → ShapeParts
 parts_played play drawn parts kind = if is_accepted parts.tiles parts.melds parts.seen kind then parts_chosen (play drawn kind) parts kind else parts_passed parts kind
 
 -- of the draws that begin with a tile of the kind, how many lead there
-abbrev pub played_behind : ℕ → ℕ → (ShapeParts → ℕ) → Play → List ℕ → ShapeParts → ℕ → ℕ
+abbrev pub played_behind : ℕ → ℕ → (ShapeParts → ℕ) → DrawPlay → List ℕ → ShapeParts → ℕ → ℕ
 played_behind goal left value play drawn parts kind = if is_there goal (parts_with parts kind) then all_draws (unseen_of parts - 1) left else value (parts_played play drawn parts kind)
 
 -- of all ordered draws how many bring the hand near enough, where some kinds were drawn before
-unfoldable pub draws_by : Play → List ℕ → ℕ → ShapeParts → ℕ → ℕ
+unfoldable pub draws_by : DrawPlay → List ℕ → ℕ → ShapeParts → ℕ → ℕ
 draws_by play drawn goal parts zero = if is_there goal parts then 1 else 0
 draws_by play drawn goal parts (suc left) =
     if is_there goal parts then all_draws (unseen_of parts) (suc left)

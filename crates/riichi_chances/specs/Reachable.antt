@@ -8,13 +8,13 @@ use Rattle.riichi_shape.specs.Discards.{discards_of, is_discard}
 use Rattle.riichi_shape.specs.EveryWinning.{distance_of}
 use Rattle.riichi_deeper.specs.Drawn.{parts_without}
 use Rattle.riichi_chances.specs.Draws.{is_there}
-use Rattle.riichi_chances.specs.Graph.{kinds_of}
+use Rattle.riichi_chances.specs.Graph.{discard_kinds}
 use Rattle.riichi_chances.specs.declared.fault.ChancesFault.{ChancesFault}
 use Rattle.riichi_chances.specs.declared.fault.ChancesFault.TheVariants.{Memory, TooManyHands}
 use Rattle.riichi_chances.specs.declared.graph.Graph.{Graph}
 
 -- some hands of thirteen tiles, with the melds of one and what that sees
-pub record Group : Type 0 where
+pub record HandGroup : Type 0 where
   pub root : ShapeParts
   pub firsts : List (List ℕ)
 
@@ -27,45 +27,45 @@ pub record IsStep (root : ShapeParts) (hand : List ℕ) (kind thrown : ℕ) : Ty
   pub best : is_discard (with_one hand kind) root.melds thrown ≡ true
 
 -- the hands of a group, and all that such steps lead to
-pub data MayCome (group : Group) : List ℕ → Type 0 where
+pub data MayCome (group : HandGroup) : List ℕ → Type 0 where
   AtFirst : (hand : List ℕ) → Contains group.firsts hand → MayCome group hand
   ByStep : (hand : List ℕ) (kind thrown : ℕ) → MayCome group hand → IsStep group.root hand kind thrown → MayCome group (without_one (with_one hand kind) thrown)
 
 -- all of them are among so many hands
-pub record ComesToFew (most : ℕ) (group : Group) : Type 0 where
+pub record ComesToFew (most : ℕ) (group : HandGroup) : Type 0 where
   pub hands : List (List ℕ)
   pub few : length hands ≤ most
   pub all : (hand : List ℕ) → MayCome group hand → Contains hands hand
 
 -- they are more than so many
-pub record ComesToMore (most : ℕ) (group : Group) : Type 0 where
+pub record ComesToMore (most : ℕ) (group : HandGroup) : Type 0 where
   pub hands : List (List ℕ)
   pub more : most < length hands
   pub different : IsDistinct (pointwise nat_eq) hands
   pub each : All (MayCome group) hands
 
 -- a hand by itself
-abbrev pub alone : ShapeParts → Group
-alone parts = record { root = parts; firsts = parts.tiles ∷ [] }
+abbrev pub by_itself : ShapeParts → HandGroup
+by_itself parts = record { root = parts; firsts = parts.tiles ∷ [] }
 
 -- what the best discards of fourteen tiles leave
-abbrev pub together : ShapeParts → Group
-together drawn = record { root = drawn; firsts = map (without_one drawn.tiles) (kinds_of (discards_of drawn.tiles drawn.melds drawn.seen)) }
+abbrev pub together : ShapeParts → HandGroup
+together drawn = record { root = drawn; firsts = map (without_one drawn.tiles) (discard_kinds (discards_of drawn.tiles drawn.melds drawn.seen)) }
 
 -- of a won hand each by itself, since it may accept what was thrown
-abbrev pub groups_of : ShapeParts → List Group
-groups_of drawn = if is_there 0 drawn then map (λ kind. alone (parts_without drawn kind)) (kinds_of (discards_of drawn.tiles drawn.melds drawn.seen)) else together drawn ∷ []
+abbrev pub groups_of : ShapeParts → List HandGroup
+groups_of drawn = if is_there 0 drawn then map (λ kind. by_itself (parts_without drawn kind)) (discard_kinds (discards_of drawn.tiles drawn.melds drawn.seen)) else together drawn ∷ []
 
 -- ---- while the hands are taken
 
 -- all that were taken may be come to
-pub record IsWithin (group : Group) (parts : ShapeParts) (graph : Graph) : Type 0 where
+pub record IsWithin (group : HandGroup) (parts : ShapeParts) (graph : Graph) : Type 0 where
   pub melds : group.root.melds ≡ parts.melds
   pub seen : group.root.seen ≡ parts.seen
   pub each : All (MayCome group) graph.hands.keys
 
 -- what the best discards leave may be come to
-abbrev pub RestsMayCome : Group → ShapeParts → Type 0
+abbrev pub RestsMayCome : HandGroup → ShapeParts → Type 0
 RestsMayCome group drawn = (thrown : ℕ) → thrown < 34 → is_discard drawn.tiles drawn.melds thrown ≡ true → MayCome group (without_one drawn.tiles thrown)
 
 -- what holds where there are too many hands

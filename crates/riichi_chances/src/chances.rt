@@ -5,7 +5,7 @@ ghost use Rattle.riichi_hand.specs.HandParts.{ShapeParts};
 ghost use Rattle.riichi_chances.specs.Chances as spec;
 ghost use Rattle.riichi_chances.specs.Draws.{unseen_of};
 ghost use Rattle.riichi_chances.specs.Graph.{AreBefore, IsGraph};
-ghost use Rattle.riichi_chances.specs.Reachable.{ComesToFew, ComesToMore, OnTooMany, alone};
+ghost use Rattle.riichi_chances.specs.Reachable.{ComesToFew, ComesToMore, OnTooMany, by_itself};
 
 use crate::building::place_of;
 use crate::counting::fill;
@@ -81,8 +81,8 @@ pub fn chances_of<R: RowSource>(
     ensures chances { IfOk result (spec.AreChances asked.now turns) }
     ensures at_most { IfOk result (spec.AreAtMost asked.now (unseen_of asked.now) turns) }
     ensures plays { IfOk result (spec.IsNoPlayAbove asked.now turns) }
-    ensures few { OnOk result (ComesToFew most_hands (alone asked.now)) }
-    ensures many { OnTooMany result (ComesToMore most_hands (alone asked.now)) }
+    ensures few { OnOk result (ComesToFew most_hands (by_itself asked.now)) }
+    ensures many { OnTooMany result (ComesToMore most_hands (by_itself asked.now)) }
     ensures stays { source.new ≡ source.old }
 {
     let unseen = unseen(asked);
@@ -135,7 +135,7 @@ fn tell_each(each: &mut [Chances], places: &[usize], rows: &[Rows], turns: u8, a
     requires each { length each.old ≡ length places.now }
     requires inside { AreBefore (length rows.now) places.now }
     ensures each { length each.new ≡ length each.old }
-    ensures told { spec.AreTold turns places.now rows.now all each.old each.new }
+    ensures told { spec.AreAllTold turns places.now rows.now all each.old each.new }
 {
     for at in 0..places.len() {
         each[at].tell(turns, &rows[places[at]], all);

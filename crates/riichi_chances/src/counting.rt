@@ -166,7 +166,8 @@ fn best_of_each(
 fn best_of(places: &[usize], earlier: &[Rows], turns: u8) -> Rows
     requires turns { turns ≤ 18 }
     requires before { spec.AreBefore (length earlier.now) places.now }
-    ensures { (column : Column) (left : ℕ) → left < turns → slice_index (numbers_for column result) left
+    ensures { (column : Column) (left : ℕ) → left < turns
+        → slice_index (numbers_for column result) left
         ≡ greatest (spec.placed_number column earlier.now left) places.now }
 {
     let mut best = Rows::all([0; 19]);

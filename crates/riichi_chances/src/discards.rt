@@ -6,7 +6,7 @@ ghost use Rattle.riichi_shape.specs.EveryWinning.{distance_of};
 ghost use Rattle.riichi_deeper.specs.Drawn.{parts_without};
 ghost use Rattle.riichi_chances.specs.Chances as spec;
 ghost use Rattle.riichi_chances.specs.Draws.{is_there};
-ghost use Rattle.riichi_chances.specs.Reachable.{ComesToFew, ComesToMore, Group, OnTooMany, alone, groups_of, together};
+ghost use Rattle.riichi_chances.specs.Reachable.{ComesToFew, ComesToMore, HandGroup, OnTooMany, by_itself, groups_of, together};
 
 use crate::building::places_of;
 use crate::chances::{Chances, by_turns, chances_of};
@@ -38,13 +38,14 @@ pub fn discard_chances<R: RowSource>(
     requires fourteen { size asked.now.tiles asked.now.melds ≡ 14 }
     requires turns { turns ≤ 18 }
     ensures each { IfOk result (λ each. map (λ one. one.kind) each.items
-        ≡ map (λ discard. discard.kind) (discards_of asked.now.tiles asked.now.melds asked.now.seen)) }
+        ≡ map (λ discard. discard.kind)
+        (discards_of asked.now.tiles asked.now.melds asked.now.seen)) }
     ensures chances { IfOk result (λ each. spec.AreAfter asked.now turns each.items) }
     ensures at_most { IfOk result (λ each. spec.AreAfterAtMost asked.now turns each.items) }
     ensures plays { IfOk result (λ each. spec.IsNoPlayAboveAfter asked.now turns each.items) }
     ensures few { OnOk result (All (ComesToFew most_hands) (groups_of asked.now)) }
     ensures many { OnTooMany result
-        ((group : Group) × Contains (groups_of asked.now) group × ComesToMore most_hands group) }
+        ((group : HandGroup) × Contains (groups_of asked.now) group × ComesToMore most_hands group) }
     ensures stays { source.new ≡ source.old }
 {
     let answer = shape_with(source, asked);
@@ -79,11 +80,12 @@ fn each_alone<R: RowSource>(
     ensures chances { IfOk result (λ each. spec.AreAfter asked.now turns each.items) }
     ensures at_most { IfOk result (λ each. spec.AreAfterAtMost asked.now turns each.items) }
     ensures plays { IfOk result (λ each. spec.IsNoPlayAboveAfter asked.now turns each.items) }
-    ensures few { OnOk result ((kind : ℕ) → Contains (map (λ discard. discard.kind) discards.now) kind
-        → ComesToFew most_hands (alone (parts_without asked.now kind))) }
+    ensures few { OnOk result ((kind : ℕ)
+        → Contains (map (λ discard. discard.kind) discards.now) kind
+        → ComesToFew most_hands (by_itself (parts_without asked.now kind))) }
     ensures many { OnTooMany result
         ((kind : ℕ) × Contains (map (λ discard. discard.kind) discards.now) kind
-        × ComesToMore most_hands (alone (parts_without asked.now kind))) }
+        × ComesToMore most_hands (by_itself (parts_without asked.now kind))) }
     ensures stays { source.new ≡ source.old }
 {
     let mut each = Vec::new(alloc);

@@ -2,7 +2,7 @@
 ghost use Rattle.std.specs.Prelude.{◌≡◌, [], All, IfNone, IfOk, IfSome, OnOk, length};
 ghost use Rattle.riichi_hand.specs.HandParts.{ShapeParts};
 ghost use Rattle.riichi_chances.specs.Graph as spec;
-ghost use Rattle.riichi_chances.specs.Reachable.{ComesToMore, Group, IsWithin, MayCome, OnTooMany};
+ghost use Rattle.riichi_chances.specs.Reachable.{ComesToMore, HandGroup, IsWithin, MayCome, OnTooMany};
 
 use crate::fault::ChancesFault;
 use indexmap::IndexSet;
@@ -63,9 +63,10 @@ impl Graph {
         requires node { spec.IsNode self.old.hands.keys (length self.old.nodes.items) asked.now node }
         ensures grows { OnOk result (spec.Grows asked.now self.old self.new) }
         ensures place { IfOk result (spec.IsPlaceOf self.new asked.now) }
-        ensures within { (group : Group) → IsWithin group asked.now self.old
-            → MayCome group asked.now.tiles → OnOk result (All (MayCome group) self.new.hands.keys) }
-        ensures many { (group : Group) → IsWithin group asked.now self.old
+        ensures within { (group : HandGroup) → IsWithin group asked.now self.old
+            → MayCome group asked.now.tiles
+            → OnOk result (All (MayCome group) self.new.hands.keys) }
+        ensures many { (group : HandGroup) → IsWithin group asked.now self.old
             → MayCome group asked.now.tiles
             → OnTooMany result (ComesToMore self.old.most_hands group) }
     {
@@ -82,10 +83,10 @@ impl Graph {
         ensures grows { IfOk result (λ place. IfSome place
             (λ _. spec.Grows asked.now self.old self.new)) }
         ensures place { IfOk result (λ place. IfSome place (spec.IsPlaceOf self.new asked.now)) }
-        ensures within { (group : Group) → IsWithin group asked.now self.old
+        ensures within { (group : HandGroup) → IsWithin group asked.now self.old
             → MayCome group asked.now.tiles
             → OnOk result (All (MayCome group) self.new.hands.keys) }
-        ensures many { (group : Group) → IsWithin group asked.now self.old
+        ensures many { (group : HandGroup) → IsWithin group asked.now self.old
             → MayCome group asked.now.tiles
             → IfOk result (λ place. IfNone place (ComesToMore self.old.most_hands group)) }
     {

@@ -19,7 +19,7 @@ impl Column {
     /// The least number that counts for what an accepted tile leads to, where the hand itself has so many: for an upper end as
     /// many, since the tile may be thrown.
     pub fn least(self, own: u128) -> u128
-        ensures { result ≡ spec.least_of self own }
+        ensures { result ≡ spec.floor_of self own }
     {
         match self {
             Column::Ready | Column::Win => 0,

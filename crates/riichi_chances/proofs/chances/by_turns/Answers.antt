@@ -1,6 +1,6 @@
 use Rattle.std.proofs.Common.{◌+◌, ◌<◌, List, length, sym, ap, subst, ◌∙◌, arith}
 use Rattle.std.specs.Prelude.{slice_index, slice_index_or}
-use Rattle.riichi_chances.specs.Chances.{AreTold}
+use Rattle.riichi_chances.specs.Chances.{AreAllTold}
 use Rattle.riichi_chances.specs.Graph.{placed_hand}
 use Rattle.riichi_chances.specs.declared.chances.Chances.{Chances}
 use Rattle.riichi_chances.specs.declared.rows.Rows.{Rows}
@@ -18,7 +18,7 @@ loop-count-preserved c =
     let as_long = c.tell_each.ensures.each ∙ ap length c.deref_mut.ensures.value in
     let back = written_back new before c.loop-count.each.len as_long (ap length (sym c.deref_mut.ensures.value) ∙ c.deref_mut.ensures.len) in
     let small : c.loop-count.count < 19 = omega (arith, c.loop-count-test.true, c.requires.turns) in
-    let told = subst (λ (each : List Chances). AreTold count places rows (slice_index c.all_draws.result count) each new) c.deref_mut.ensures.value (subst (λ (rs : List Rows). AreTold count places rs (slice_index c.all_draws.result count) c.deref_mut.result.now new) c.as_slice.ensures.value c.tell_each.ensures.told) in
+    let told = subst (λ (each : List Chances). AreAllTold count places rows (slice_index c.all_draws.result count) each new) c.deref_mut.ensures.value (subst (λ (rs : List Rows). AreAllTold count places rs (slice_index c.all_draws.result count) c.deref_mut.result.now new) c.as_slice.ensures.value c.tell_each.ensures.told) in
     record {
       each = ap length back ∙ as_long ∙ so_far.each;
       long = λ at chances low. subst (λ (each : List Chances). AreLong (slice_index_or each at chances)) (sym back) (long_next places c.args.unseen count before new rows (slice_index c.all_draws.result count) small told so_far.long at chances low);

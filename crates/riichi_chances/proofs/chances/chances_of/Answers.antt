@@ -4,7 +4,7 @@ use Rattle.riichi_hand.specs.HandParts.{ShapeParts}
 use Rattle.riichi_chances.specs.Draws.{unseen_of}
 use Rattle.riichi_chances.specs.Graph.{placed_hand}
 use Rattle.riichi_chances.proofs.ChancesLemmas.{are_at_most, of_thirteen, placed, thirteen_plays}
-use Rattle.riichi_chances.specs.Reachable.{alone}
+use Rattle.riichi_chances.specs.Reachable.{by_itself}
 use Rattle.riichi_chances.proofs.ReachableLemmas.{alone_comes, alone_few, more_as, none_within, too_many_then}
 use Rattle.riichi_chances.proofs.chances.chances_of.Goals as goal
 
@@ -39,5 +39,5 @@ returns-clause-few g c = alone_few c.args.asked.now c.place_of.new.graph c.in_ok
 pub returns-in_err-place-clause-many : goal.returns-in_err-place-clause-many
 returns-in_err-place-clause-many g c =
     let asked = c.args.asked.now in
-    too_many_then c.in_err-place.field-0.0 c.from_residual.result c.from_residual.ensures.1 (more_as c.args.most_hands c.new-graph.result.most_hands (alone asked) c.new-graph.ensures.most)
-    (c.in_err-place.ensures.many (alone asked) (none_within (alone asked) asked c.new-graph.result refl refl c.new-graph.ensures.none) (alone_comes asked))
+    too_many_then c.in_err-place.field-0.0 c.from_residual.result c.from_residual.ensures.1 (more_as c.args.most_hands c.new-graph.result.most_hands (by_itself asked) c.new-graph.ensures.most)
+    (c.in_err-place.ensures.many (by_itself asked) (none_within (by_itself asked) asked c.new-graph.result refl refl c.new-graph.ensures.none) (alone_comes asked))

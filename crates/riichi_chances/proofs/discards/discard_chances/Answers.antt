@@ -5,7 +5,7 @@ use Rattle.std.proofs.lemmas.Int.{ints}
 use Rattle.riichi_shape.specs.EveryWinning.{distance_of}
 use Rattle.riichi_shape.specs.declared.discard.Discard.{Discard}
 use Rattle.riichi_deeper.proofs.DrawnLemmas.{list_of_fourteen, never_thirteen, shanten_told}
-use Rattle.riichi_chances.specs.Graph.{kinds_of}
+use Rattle.riichi_chances.specs.Graph.{discard_kinds}
 use Rattle.riichi_chances.proofs.ChancesLemmas.{told_kinds}
 use Rattle.riichi_chances.proofs.ReachableLemmas.{few_by_one, few_in_all, many_by_one, many_in_all, on_ok_as, too_many_as}
 use Rattle.riichi_chances.proofs.discards.discard_chances.Goals as goal
@@ -34,11 +34,11 @@ unreachable-requires g c = never_thirteen c.args.asked.now c.shape_with-answer.r
 
 pub returns-then-is_won-clause-each : goal.returns-then-is_won-clause-each
 returns-then-is_won-clause-each g c =
-    subst (λ (discards : List Discard). IfOk c.each_alone.result (λ each. told_kinds each.items ≡ kinds_of discards)) (list_of_fourteen c.args.asked.now c.shape_with-answer.result c.in-Fourteen.discards c.shape_with-answer.ensures.shape c.requires.fourteen c.in-Fourteen.is) c.each_alone.ensures.each
+    subst (λ (discards : List Discard). IfOk c.each_alone.result (λ each. told_kinds each.items ≡ discard_kinds discards)) (list_of_fourteen c.args.asked.now c.shape_with-answer.result c.in-Fourteen.discards c.shape_with-answer.ensures.shape c.requires.fourteen c.in-Fourteen.is) c.each_alone.ensures.each
 
 pub returns-else-is_won-clause-each : goal.returns-else-is_won-clause-each
 returns-else-is_won-clause-each g c =
-    subst (λ (discards : List Discard). IfOk c.all_together.result (λ each. told_kinds each.items ≡ kinds_of discards)) (list_of_fourteen c.args.asked.now c.shape_with-answer.result c.in-Fourteen.discards c.shape_with-answer.ensures.shape c.requires.fourteen c.in-Fourteen.is) c.all_together.ensures.each
+    subst (λ (discards : List Discard). IfOk c.all_together.result (λ each. told_kinds each.items ≡ discard_kinds discards)) (list_of_fourteen c.args.asked.now c.shape_with-answer.result c.in-Fourteen.discards c.shape_with-answer.ensures.shape c.requires.fourteen c.in-Fourteen.is) c.all_together.ensures.each
 
 pub returns-then-is_won-clause-few : goal.returns-then-is_won-clause-few
 returns-then-is_won-clause-few g c =

@@ -8,9 +8,9 @@ use Rattle.riichi_chances.specs.Chances.{AreAfter, AreAfterAtMost, AreAtMost, Ar
 use Rattle.riichi_chances.specs.Draws.{unseen_of}
 use Rattle.riichi_chances.specs.declared.discards.DiscardChances.{DiscardChances}
 use Rattle.riichi_chances.proofs.ChancesLemmas.{after_more, after_none, told_alone, told_kinds, told_more}
-use Rattle.riichi_chances.specs.Graph.{kinds_of}
+use Rattle.riichi_chances.specs.Graph.{discard_kinds}
 use Rattle.riichi_chances.proofs.CountingLemmas.{best_at, never_past}
-use Rattle.riichi_chances.specs.Reachable.{ComesToFew, ComesToMore, alone}
+use Rattle.riichi_chances.specs.Reachable.{ComesToFew, ComesToMore, by_itself}
 use Rattle.riichi_chances.proofs.ReachableLemmas.{each_more, kind_found, too_many_then}
 use Rattle.riichi_chances.proofs.discards.each_alone.Goals as goal
 
@@ -40,8 +40,8 @@ loop-at-preserved g c =
     record {
       stays = c.chances_of.ensures.stays ∙ so_far.stays;
       told = told_more c.loop-at.each.items c.keep.new.each.items one c.args.discards.now c.loop-at.at c.in-Some.discard (sym c.in-Some.is ∙ c.short_at.ensures) refl c.in_ok-keep-in-Some.ensures so_far.told;
-      few = each_more c.args.discards.now c.loop-at.at c.in-Some.discard (sym c.in-Some.is ∙ c.short_at.ensures) (λ kind. ComesToFew c.args.most_hands (alone (parts_without c.args.asked.now kind))) so_far.few
-          (subst (λ (parts : ShapeParts). ComesToFew c.args.most_hands (alone parts)) c.without_tile-rest.ensures.value c.in_ok-chances-in-Some.ensures.few);
+      few = each_more c.args.discards.now c.loop-at.at c.in-Some.discard (sym c.in-Some.is ∙ c.short_at.ensures) (λ kind. ComesToFew c.args.most_hands (by_itself (parts_without c.args.asked.now kind))) so_far.few
+          (subst (λ (parts : ShapeParts). ComesToFew c.args.most_hands (by_itself parts)) c.without_tile-rest.ensures.value c.in_ok-chances-in-Some.ensures.few);
       after = after_more (λ kind. AreChances (parts_without asked kind) turns) c.loop-at.each.items c.keep.new.each.items one so_far.after (subst (λ (parts : ShapeParts). AreChances parts turns one.chances) rest_is c.in_ok-chances-in-Some.ensures.chances) c.in_ok-keep-in-Some.ensures;
       at_most = after_more (λ kind. AreAtMost (parts_told asked kind) (unseen_of (parts_without asked kind)) turns) c.loop-at.each.items c.keep.new.each.items one so_far.at_most (told_alone asked c.without_tile-rest.result one.kind turns one.chances c.requires.won rest_is c.in_ok-chances-in-Some.ensures.at_most) c.in_ok-keep-in-Some.ensures;
       plays = after_more (λ kind. IsNoPlayAbove (parts_without asked kind) turns) c.loop-at.each.items c.keep.new.each.items one so_far.plays (subst (λ (parts : ShapeParts). IsNoPlayAbove parts turns one.chances) rest_is c.in_ok-chances-in-Some.ensures.plays) c.in_ok-keep-in-Some.ensures;
@@ -49,17 +49,17 @@ loop-at-preserved g c =
 
 pub returns-clause-each : goal.returns-clause-each
 returns-clause-each g c =
-    c.loop-at.invariant.told ∙ ap (λ (discards : List Discard). kinds_of discards) (take_all c.loop-at.at c.args.discards.now (omega (arith, c.loop-at-test.false, c.len-at-end.ensures.value)))
+    c.loop-at.invariant.told ∙ ap (λ (discards : List Discard). discard_kinds discards) (take_all c.loop-at.at c.args.discards.now (omega (arith, c.loop-at-test.false, c.len-at-end.ensures.value)))
 
 pub returns-clause-chances : goal.returns-clause-chances
 returns-clause-chances g c = c.loop-at.invariant.after
 
 pub returns-clause-few : goal.returns-clause-few
 returns-clause-few g c = λ kind there.
-    c.loop-at.invariant.few kind (subst (λ (discards : List Discard). IsIn kind (kinds_of discards)) (sym (take_all c.loop-at.at c.args.discards.now (omega (arith, c.loop-at-test.false, c.len-at-end.ensures.value)))) (in-Contains kind (kinds_of c.args.discards.now) there))
+    c.loop-at.invariant.few kind (subst (λ (discards : List Discard). IsIn kind (discard_kinds discards)) (sym (take_all c.loop-at.at c.args.discards.now (omega (arith, c.loop-at-test.false, c.len-at-end.ensures.value)))) (in-Contains kind (discard_kinds c.args.discards.now) there))
 
 pub returns-in_err-chances-in-Some-clause-many : goal.returns-in_err-chances-in-Some-clause-many
 returns-in_err-chances-in-Some-clause-many g c =
     too_many_then c.in_err-chances-in-Some.field-0.0 c.from_residual.result c.from_residual.ensures.1
-    (λ (many : ComesToMore c.args.most_hands (alone c.without_tile-rest.result)). (c.in-Some.discard.kind, kind_found c.args.discards.now c.loop-at.at c.in-Some.discard (sym c.in-Some.is ∙ c.short_at.ensures), subst (λ (parts : ShapeParts). ComesToMore c.args.most_hands (alone parts)) c.without_tile-rest.ensures.value many))
+    (λ (many : ComesToMore c.args.most_hands (by_itself c.without_tile-rest.result)). (c.in-Some.discard.kind, kind_found c.args.discards.now c.loop-at.at c.in-Some.discard (sym c.in-Some.is ∙ c.short_at.ensures), subst (λ (parts : ShapeParts). ComesToMore c.args.most_hands (by_itself parts)) c.without_tile-rest.ensures.value many))
     c.in_err-chances-in-Some.ensures.many
