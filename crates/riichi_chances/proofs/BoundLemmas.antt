@@ -11,7 +11,8 @@ use Rattle.riichi_shape.specs.Accepted.{is_accepted, live_of}
 use Rattle.riichi_shape.specs.Discards.{is_discard}
 use Rattle.riichi_shape.specs.LiveCopies.{live_in}
 use Rattle.riichi_deeper.specs.Drawn.{parts_with}
-use Rattle.riichi_chances.specs.Counted.{accepts, counted_draws, counted_by, counted_rest, counted_with, accepted_draws, parts_less}
+use Rattle.riichi_chances.specs.AtMost.{accepted_most, counted_most, most_with}
+use Rattle.riichi_chances.specs.Counted.{accepts, counted_draws, counted_rest, counted_with, accepted_draws, parts_less}
 use Rattle.riichi_chances.specs.Draws.{all_draws, is_there}
 use Rattle.riichi_chances.specs.Numbers.{most_draws}
 use Rattle.riichi_chances.proofs.CountedLemmas.{accepted_sum}
@@ -33,6 +34,14 @@ accepted_few parts =
     few true n h = h
     few false n h = omega arith
 
+pub pairs_few : (number : ℕ → ℕ) (most : ℕ) → ((kind : ℕ) → number kind ≤ most) → (pairs : List (ℕ × ℕ)) → sum_by (λ (pair : ℕ × ℕ). pair.1 * number pair.0) pairs ≤ sum_by (λ (pair : ℕ × ℕ). pair.1) pairs * most
+pairs_few number most few [] = omega arith
+pairs_few number most few (pair ∷ pairs) =
+    add (pair.1) (number pair.0) (sum_by (λ (p : ℕ × ℕ). p.1 * number p.0) pairs) (sum_by (λ (p : ℕ × ℕ). p.1) pairs) (sum_by-cons (λ (p : ℕ × ℕ). p.1 * number p.0) pair pairs) (sum_by-cons (λ (p : ℕ × ℕ). p.1) pair pairs) (few pair.0) (pairs_few number most few pairs)
+  where
+    add : {s t : ℕ} (l n rest some : ℕ) → s ≡ l * n + rest → t ≡ l + some → n ≤ most → rest ≤ some * most → s ≤ t * most
+    add l n rest some e e' small later = omega (arith, e, ap (λ m. m * most) e', times_few l l n most (omega arith) small, later)
+
 module _ (goal unseen left most : ℕ) (value : ShapeParts → ℕ) (all : all_draws unseen left ≤ most) (each : (parts : ShapeParts) → value parts ≤ most) where
   pub with_few : (drawn : ShapeParts) → counted_with goal unseen left value drawn ≤ most
   unfolding counted_with counted_rest
@@ -42,18 +51,13 @@ module _ (goal unseen left most : ℕ) (value : ShapeParts → ℕ) (all : all_d
       by_test true few = all
       by_test false few = few
 
-  sums_few : (parts : ShapeParts) (pairs : List (ℕ × ℕ)) → sum_by (counted_by goal unseen left value parts) pairs ≤ sum_by (λ pair. pair.1) pairs * most
-  sums_few parts [] = omega arith
-  sums_few parts (pair ∷ pairs) =
-      add (pair.1) (counted_with goal unseen left value (parts_with parts pair.0)) (sum_by (counted_by goal unseen left value parts) pairs) (sum_by (λ pair. pair.1) pairs) (sum_by-cons (counted_by goal unseen left value parts) pair pairs) (sum_by-cons (λ (pair : ℕ × ℕ). pair.1) pair pairs) (with_few (parts_with parts pair.0)) (sums_few parts pairs)
-    where
-      add : (l n rest few : ℕ) → sum_by (counted_by goal unseen left value parts) (pair ∷ pairs) ≡ l * n + rest → sum_by (λ pair. pair.1) (pair ∷ pairs) ≡ l + few → n ≤ most → rest ≤ few * most
-          → sum_by (counted_by goal unseen left value parts) (pair ∷ pairs) ≤ sum_by (λ pair. pair.1) (pair ∷ pairs) * most
-      add l n rest few e e' small later = omega (arith, e, ap (λ m. m * most) e', times_few l l n most (omega arith) small, later)
-
   pub gains_few : (parts : ShapeParts) → accepted_draws goal unseen left value parts ≤ live_in (accepts parts) * most
   unfolding accepted_draws
-  gains_few parts = sums_few parts (accepts parts)
+  gains_few parts = pairs_few (λ kind. counted_with goal unseen left value (parts_with parts kind)) most (λ kind. with_few (parts_with parts kind)) (accepts parts)
+
+  most_gains : (parts : ShapeParts) → accepted_most goal unseen left value parts ≤ live_in (accepts parts) * most
+  unfolding accepted_most
+  most_gains parts = pairs_few (most_with goal unseen left value parts) most (λ kind. omega (arith, with_few (parts_with parts kind), each parts)) (accepts parts)
 
 pub most_none : most_draws zero ≡ 1
 unfolding most_draws
@@ -79,6 +83,25 @@ counted_few goal (suc left) unseen parts few =
     by_test (is_there goal parts) (all_few unseen (suc left) few)
     (step_few (unseen - live) live (counted_draws goal parts (unseen - 1) left) (accepted_draws goal (unseen - 1) left (λ rest. counted_draws goal rest (unseen - 1) left) parts) (most_draws left) (omega (arith, few, accepted_few parts)) (counted_few goal left (unseen - 1) parts (omega arith))
     (gains_few goal (unseen - 1) left (most_draws left) (λ rest. counted_draws goal rest (unseen - 1) left) (all_few (unseen - 1) left (omega arith)) (λ rest. counted_few goal left (unseen - 1) rest (omega arith)) parts))
+  where
+    live : ℕ
+    live = live_in (accepts parts)
+
+    by_test : {a b : ℕ} (t : Bool) → a ≤ most_draws (suc left) → b ≤ most_draws (suc left) → cond t a b ≤ most_draws (suc left)
+    by_test true here there = here
+    by_test false here there = there
+
+pub upper_few : (goal turns unseen : ℕ) (parts : ShapeParts) → unseen ≤ 136 → counted_most goal parts unseen turns ≤ most_draws turns
+unfolding counted_most most_draws
+upper_few goal zero unseen parts few = by_test (is_there goal parts) most_none
+  where
+    by_test : (t : Bool) → most_draws zero ≡ 1 → cond t 1 0 ≤ most_draws zero
+    by_test true e = omega (arith, e)
+    by_test false e = omega (arith, e)
+upper_few goal (suc left) unseen parts few =
+    by_test (is_there goal parts) (all_few unseen (suc left) few)
+    (step_few (unseen - live) live (counted_most goal parts (unseen - 1) left) (accepted_most goal (unseen - 1) left (λ rest. counted_most goal rest (unseen - 1) left) parts) (most_draws left) (omega (arith, few, accepted_few parts)) (upper_few goal left (unseen - 1) parts (omega arith))
+    (most_gains goal (unseen - 1) left (most_draws left) (λ rest. counted_most goal rest (unseen - 1) left) (all_few (unseen - 1) left (omega arith)) (λ rest. upper_few goal left (unseen - 1) rest (omega arith)) parts))
   where
     live : ℕ
     live = live_in (accepts parts)

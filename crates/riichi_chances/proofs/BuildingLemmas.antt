@@ -1,7 +1,7 @@
 -- The draws of a hand and the places that they lead to, one more at a time.
-use Rattle.std.proofs.Common.{◌≡◌, ℕ, ◌+◌, ◌*◌, ◌<◌, ◌≤◌, true, max, List, [], ◌∷◌, ◌++◌, length, Some, sym, ap, subst, ◌∙◌, ⊎_elim, arith, length-append}
+use Rattle.std.proofs.Common.{◌≡◌, ℕ, ◌+◌, ◌*◌, ◌<◌, ◌≤◌, true, max, List, [], ◌∷◌, ◌++◌, map, take, length, Some, Result, Ok, Err, IfOk, refl, sym, ap, subst, ◌∙◌, ⊎_elim, arith, length-append}
 use Rattle.std.proofs.lemmas.Bool.{cases_eq}
-use Rattle.std.proofs.lemmas.List.{get_or_append_left, get_or_push}
+use Rattle.std.proofs.lemmas.List.{get_or_append_left, get_or_push, map_push, take_all}
 use Rattle.std.proofs.lemmas.List.Sums.{sum_by_push}
 use Rattle.std.specs.Option.{option_map}
 use Rattle.std.specs.Prelude.{slice_get, slice_index, slice_index_or, sum_by}
@@ -9,8 +9,7 @@ use Rattle.riichi_hand.specs.Hand.{is_thirteen, size}
 use Rattle.riichi_hand.specs.HandParts.{ShapeParts}
 use Rattle.riichi_tiles.specs.Melds.{tiles}
 use Rattle.riichi_tiles.specs.declared.meld.Meld.{Meld}
-use Rattle.riichi_shape.specs.Accepted.{accepted_of, with_one}
-use Rattle.riichi_shape.specs.Discards.{discards_of}
+use Rattle.riichi_shape.specs.Accepted.{accepted_of, with_one, without_one}
 use Rattle.riichi_shape.specs.EveryWinning.{distance_of}
 use Rattle.riichi_shape.specs.KeptDiscards.{short_of}
 use Rattle.riichi_shape.specs.LiveCopies.{pairs_of}
@@ -21,14 +20,14 @@ use Rattle.riichi_shape.proofs.OneMore.{hand_falls}
 use Rattle.riichi_deeper.proofs.DeeperLemmas.{rest_all, rest_end, rest_none, rest_of, rest_some}
 use Rattle.riichi_deeper.proofs.DrawnLemmas.{is_thirteen_by, thirteen_is}
 use Rattle.riichi_deeper.specs.Drawn.{parts_with}
-use Rattle.riichi_chances.specs.Counted.{counted_rest, parts_less}
+use Rattle.riichi_chances.specs.Counted.{parts_less}
 use Rattle.riichi_chances.specs.Draws.{greatest}
-use Rattle.riichi_chances.specs.Graph.{AreBefore, AreRests, Grows, IsGraph, IsPlaceOf, LeadBefore, LeadTo, draws_value, draw_value, hand_at, rest_by, rests_value}
+use Rattle.riichi_chances.specs.Graph.{AreBefore, AreLeft, AreRests, Grows, IsGraph, IsPlaceOf, LeadBefore, LeadTo, draws_value, draw_value, discard_kinds, placed_hand, rest_by, rests_value}
 use Rattle.riichi_chances.specs.Laws.{IsFourteen, IsThirteen}
 use Rattle.riichi_chances.specs.declared.graph.Draw.{Draw}
 use Rattle.riichi_chances.specs.declared.graph.Graph.{Graph}
-use Rattle.riichi_chances.proofs.CountingLemmas.{most_all, most_at, most_from, most_past}
-use Rattle.riichi_chances.proofs.GraphLemmas.{before_grown, draws_same, greatest_none, greatest_places, greatest_push, hands_same}
+use Rattle.riichi_chances.proofs.CountingLemmas.{kinds_more}
+use Rattle.riichi_chances.proofs.GraphLemmas.{before_grown, draws_same, hands_same, map_places}
 use Rattle.riichi_chances.proofs.NearestLemmas.{less_long, more_long, one_more_of}
 
 -- ---- one tile more or less
@@ -73,7 +72,7 @@ rest_whole drawn rest kind is rest_is thirteen = record {
 
 pub record DrawsSoFar (parts : ShapeParts) (copies : List ℕ) (graph : Graph) (draws : List Draw) (number : ℕ) : Type 0 where
   pub before : LeadBefore (length graph.nodes.items) draws
-  pub leads : (value : ShapeParts → ℕ) → draws_value (λ p. value (hand_at parts graph.hands.keys p)) draws + rest_of (rest_by value parts) copies number ≡ rests_value value parts
+  pub leads : (value : ShapeParts → ℕ) (least : ℕ) → draws_value (λ p. value (placed_hand parts graph.hands.keys p)) least draws + rest_of (rest_by value least parts) copies number ≡ rests_value value least parts
 
 pub no_draws_before : (most : ℕ) → LeadBefore most []
 no_draws_before most at draw low = absurd (omega (arith, low))
@@ -82,24 +81,24 @@ module _ (parts : ShapeParts) (copies : List ℕ) where
   pub draws_init : (graph : Graph) (accepted : List (ℕ × ℕ)) → accepted ≡ pairs_of copies → accepted ≡ accepted_of parts.tiles parts.melds parts.seen → DrawsSoFar parts copies graph [] 0
   draws_init graph accepted e f = record {
     before = no_draws_before (length graph.nodes.items);
-    leads = λ value. omega (arith, rest_all (rest_by value parts) copies, ap (sum_by (rest_by value parts)) (sym e ∙ f));
+    leads = λ value least. omega (arith, rest_all (rest_by value least parts) copies, ap (sum_by (rest_by value least parts)) (sym e ∙ f));
   }
 
   module _ (before after : Graph) (is : IsGraph parts before) (grows : Grows parts before after) (number : ℕ) (low : number < 34) (draws more : List Draw) (so_far : DrawsSoFar parts copies before draws number) where
     more_places : length before.nodes.items ≤ length after.nodes.items
     more_places = omega (arith, grows.more.longer, grows.whole.each, is.each)
 
-    grown_value : (value : ShapeParts → ℕ) → draws_value (λ p. value (hand_at parts after.hands.keys p)) draws ≡ draws_value (λ p. value (hand_at parts before.hands.keys p)) draws
-    grown_value value =
-        sym (draws_same (λ p. value (hand_at parts before.hands.keys p)) (λ p. value (hand_at parts after.hands.keys p)) (length before.nodes.items) draws so_far.before (λ p small. hands_same parts before.hands.keys after.hands.keys grows.more value p (omega (arith, small, is.each))))
+    grown_value : (value : ShapeParts → ℕ) (least : ℕ) → draws_value (λ p. value (placed_hand parts after.hands.keys p)) least draws ≡ draws_value (λ p. value (placed_hand parts before.hands.keys p)) least draws
+    grown_value value least =
+        sym (draws_same (λ p. value (placed_hand parts before.hands.keys p)) (λ p. value (placed_hand parts after.hands.keys p)) least (length before.nodes.items) draws so_far.before (λ p small. hands_same parts before.hands.keys after.hands.keys grows.more value p (omega (arith, small, is.each))))
 
     module _ (some : 0 < slice_index copies number) (place : ℕ) (place_is : place ≡ number) (drawn : ShapeParts) (drawn_is : drawn ≡ parts_with parts place) (draw : Draw) (live_is : draw.live ≡ slice_index copies number) (rests : List ℕ) (rests_are : draw.rests.items ≡ rests)
         (lead : AreBefore (length after.nodes.items) rests) (are : AreRests after.hands.keys rests drawn) (more_is : more ≡ draws ++ draw ∷ []) where
-      own : (value : ShapeParts → ℕ) → draw_value (λ p. value (hand_at parts after.hands.keys p)) draw ≡ rest_by value parts (number, slice_index copies number)
-      own value =
-          ap (λ n. n * greatest (λ p. value (hand_at parts after.hands.keys p)) draw.rests.items) live_is
-          ∙ ap (λ (ps : List ℕ). slice_index copies number * greatest (λ p. value (hand_at parts after.hands.keys p)) ps) rests_are
-          ∙ ap (λ n. slice_index copies number * n) ((subst (λ (d : ShapeParts). AreRests after.hands.keys rests d) (drawn_is ∙ ap (parts_with parts) place_is) are) value)
+      own : (value : ShapeParts → ℕ) (least : ℕ) → draw_value (λ p. value (placed_hand parts after.hands.keys p)) least draw ≡ rest_by value least parts (number, slice_index copies number)
+      own value least =
+          ap (λ n. n * max (greatest (λ p. value (placed_hand parts after.hands.keys p)) draw.rests.items) least) live_is
+          ∙ ap (λ (ps : List ℕ). slice_index copies number * max (greatest (λ p. value (placed_hand parts after.hands.keys p)) ps) least) rests_are
+          ∙ ap (λ n. slice_index copies number * max n least) ((subst (λ (d : ShapeParts). AreRests after.hands.keys rests d) (drawn_is ∙ ap (parts_with parts) place_is) are) value)
 
       last_before : LeadBefore (length after.nodes.items) (draws ++ draw ∷ [])
       last_before at d small = ⊎_elim here (λ ne. there (omega (arith, small, ne, length-append draws (draw ∷ [])))) (cases_eq at (length draws))
@@ -113,47 +112,38 @@ module _ (parts : ShapeParts) (copies : List ℕ) where
       pub draws_step : DrawsSoFar parts copies after more (number + 1)
       draws_step = subst (λ (ds : List Draw). DrawsSoFar parts copies after ds (number + 1)) (sym more_is) (record {
         before = last_before;
-        leads = λ value. omega (arith, sum_by_push (draw_value (λ p. value (hand_at parts after.hands.keys p))) draws draw, grown_value value, own value, rest_some (rest_by value parts) copies number low some, so_far.leads value);
+        leads = λ value least. omega (arith, sum_by_push (draw_value (λ p. value (placed_hand parts after.hands.keys p)) least) draws draw, grown_value value least, own value least, rest_some (rest_by value least parts) copies number low some, so_far.leads value least);
       })
 
   pub draws_none : (graph : Graph) (draws : List Draw) (number : ℕ) → number < 34 → slice_index copies number ≤ 0 → DrawsSoFar parts copies graph draws number → DrawsSoFar parts copies graph draws (number + 1)
   draws_none graph draws number low none so_far = record {
     before = so_far.before;
-    leads = λ value. omega (arith, so_far.leads value, rest_none (rest_by value parts) copies number low none);
+    leads = λ value least. omega (arith, so_far.leads value least, rest_none (rest_by value least parts) copies number low none);
   }
 
   pub draws_end : (graph : Graph) (draws : List Draw) (number : ℕ) → number ≡ 34 → DrawsSoFar parts copies graph draws number → LeadTo graph.hands.keys draws parts
-  draws_end graph draws number e so_far value = omega (arith, so_far.leads value, rest_end (rest_by value parts) copies number e)
+  draws_end graph draws number e so_far value least = omega (arith, so_far.leads value least, rest_end (rest_by value least parts) copies number e)
 
 -- ---- the places so far
 
 pub record RestsSoFar (drawn : ShapeParts) (discards : List Discard) (graph : Graph) (places : List ℕ) (at : ℕ) : Type 0 where
   pub before : AreBefore (length graph.nodes.items) places
-  pub are : (value : ShapeParts → ℕ) → max (greatest (λ p. value (hand_at drawn graph.hands.keys p)) places) (most_from (λ kind. value (parts_less drawn kind)) discards at) ≡ counted_rest value drawn
+  pub left : AreLeft graph.hands.keys places drawn.tiles (discard_kinds (take at discards))
 
 module _ (drawn : ShapeParts) (discards : List Discard) where
-  pub rests_init : (graph : Graph) → discards ≡ discards_of drawn.tiles drawn.melds drawn.seen → RestsSoFar drawn discards graph [] 0
-  rests_init graph is = record {
-    before = λ k low. absurd (omega (arith, low));
-    are = λ value.
-        none_max (greatest (λ p. value (hand_at drawn graph.hands.keys p)) []) (most_from (λ kind. value (parts_less drawn kind)) discards 0) (greatest_none (λ p. value (hand_at drawn graph.hands.keys p)))
-        ∙ ap (λ (ds : List Discard). most_from (λ kind. value (parts_less drawn kind)) ds 0) is ∙ most_all value drawn;
-  }
-    where
-      none_max : (a b : ℕ) → a ≡ 0 → max a b ≡ b
-      none_max a b e = omega arith
+  pub rests_init : (graph : Graph) → RestsSoFar drawn discards graph [] 0
+  rests_init graph = record { before = λ k low. absurd (omega (arith, low)); left = refl }
 
   module _ (before after : Graph) (is : IsGraph drawn before) (grows : Grows drawn before after) (at : ℕ) (places more : List ℕ) (so_far : RestsSoFar drawn discards before places at) (short : ShortDiscard) (found : Some short ≡ option_map short_of (slice_get discards at)) (rest : ShapeParts)
       (rest_is : rest ≡ parts_less drawn short.kind) (place : ℕ) (there : IsPlaceOf after rest place) (more_is : more ≡ places ++ place ∷ []) where
     few_places : length before.nodes.items ≤ length after.nodes.items
     few_places = omega (arith, grows.more.longer, grows.whole.each, is.each)
 
-    place_value : (value : ShapeParts → ℕ) → value (hand_at drawn after.hands.keys place) ≡ value (parts_less drawn short.kind)
-    place_value value = ap (λ (ts : List ℕ). value (record { tiles = ts; melds = drawn.melds; seen = drawn.seen })) (there.is ∙ ap (λ (p : ShapeParts). p.tiles) rest_is)
+    abbrev was : ℕ → List ℕ
+    was p = slice_index_or before.hands.keys p []
 
-    grown_places : (value : ShapeParts → ℕ) → greatest (λ p. value (hand_at drawn after.hands.keys p)) places ≡ greatest (λ p. value (hand_at drawn before.hands.keys p)) places
-    grown_places value =
-        sym (greatest_places (λ p. value (hand_at drawn before.hands.keys p)) (λ p. value (hand_at drawn after.hands.keys p)) (length before.nodes.items) places so_far.before (λ p small. hands_same drawn before.hands.keys after.hands.keys grows.more value p (omega (arith, small, is.each))))
+    abbrev now : ℕ → List ℕ
+    now p = slice_index_or after.hands.keys p []
 
     place_before : AreBefore (length after.nodes.items) (places ++ place ∷ [])
     place_before k low = ⊎_elim here (λ ne. other (omega (arith, low, ne, length-append places (place ∷ [])))) (cases_eq k (length places))
@@ -167,17 +157,14 @@ module _ (drawn : ShapeParts) (discards : List Discard) where
     pub rests_step : RestsSoFar drawn discards after more (at + 1)
     rests_step = subst (λ (ps : List ℕ). RestsSoFar drawn discards after ps (at + 1)) (sym more_is) (record {
       before = place_before;
-      are = λ value. both (greatest (λ p. value (hand_at drawn after.hands.keys p)) (places ++ place ∷ [])) (greatest (λ p. value (hand_at drawn after.hands.keys p)) places) (greatest (λ p. value (hand_at drawn before.hands.keys p)) places) (value (hand_at drawn after.hands.keys place)) (value (parts_less drawn short.kind))
-          (most_from (λ kind. value (parts_less drawn kind)) discards at) (most_from (λ kind. value (parts_less drawn kind)) discards (at + 1)) (greatest_push (λ p. value (hand_at drawn after.hands.keys p)) places place) (grown_places value) (place_value value) (most_at (λ kind. value (parts_less drawn kind)) discards at short found)
-          ∙ so_far.are value;
+      left = map_push now places place ∙ ap (λ (hands : List (List ℕ)). hands ++ now place ∷ []) (map_places now was (length before.nodes.items) places so_far.before (λ p small. grows.more.same p (omega (arith, small, is.each))) ∙ so_far.left)
+          ∙ ap (λ (hand : List ℕ). map (without_one drawn.tiles) (discard_kinds (take at discards)) ++ hand ∷ []) (there.is ∙ ap (λ (p : ShapeParts). p.tiles) rest_is)
+          ∙ sym (map_push (without_one drawn.tiles) (discard_kinds (take at discards)) short.kind) ∙ ap (map (without_one drawn.tiles)) (sym (kinds_more discards at short found));
     })
-      where
-        both : (a b g v w m r : ℕ) → a ≡ max b v → b ≡ g → v ≡ w → m ≡ max w r → max a r ≡ max g m
-        both a b g v w m r e f h i = omega arith
 
-  pub rests_end : (graph : Graph) (places : List ℕ) (at : ℕ) → length discards ≤ at → RestsSoFar drawn discards graph places at → AreRests graph.hands.keys places drawn
-  rests_end graph places at past so_far value =
-      last (greatest (λ p. value (hand_at drawn graph.hands.keys p)) places) (most_from (λ kind. value (parts_less drawn kind)) discards at) (most_past (λ kind. value (parts_less drawn kind)) discards at past) ∙ so_far.are value
-    where
-      last : (a r : ℕ) → r ≡ 0 → a ≡ max a r
-      last a r e = omega arith
+  pub rests_end : (graph : Graph) (places : List ℕ) (at : ℕ) → length discards ≤ at → RestsSoFar drawn discards graph places at → AreLeft graph.hands.keys places drawn.tiles (discard_kinds discards)
+  rests_end graph places at past so_far = so_far.left ∙ ap (λ (ds : List Discard). map (without_one drawn.tiles) (discard_kinds ds)) (take_all at discards past)
+
+pub ok_as : {A E : Type 0} {P Q : A → Type 0} (r : Result A E) → ((value : A) → P value → Q value) → IfOk r P → IfOk r Q
+ok_as (Ok value) told is = told value is
+ok_as (Err fault) told is = is

@@ -14,7 +14,7 @@ use Rattle.riichi_deeper.specs.Drawn.{parts_with, parts_without}
 use Rattle.riichi_chances.specs.Draws.{all_draws, best_rest, draws, draws_behind, is_there, parts_passed, unseen_of}
 use Rattle.riichi_chances.specs.Laws.{ChanceLaw}
 use Rattle.riichi_chances.proofs.BoundLemmas.{times_few}
-use Rattle.riichi_chances.proofs.CountedLemmas.{AgreeOnLacked, is_lacked, parts_of, passed, passed_unseen, thrown_left, thrown_unseen}
+use Rattle.riichi_chances.proofs.CountedLemmas.{AgreeOnLacked, AreSame, is_lacked, one_less_same, parts_of, passed, passed_unseen, thrown_left, thrown_unseen}
 use Rattle.riichi_chances.proofs.SumLemmas.{greatest_few}
 use Rattle.riichi_chances.proofs.SpanLemmas.{all_more, all_none}
 
@@ -49,8 +49,8 @@ module _ (melds : List Meld) (melded : (kind : ℕ) → kind < 34 → tiles meld
         each thrown there =
             let chosen = in-filter-inv (is_discard (with_one hand kind) melds) thrown every_kind there in
             let low : thrown < 34 = omega (arith, (in-range-inv 34 0 thrown chosen.0).1) in
-            later (without_one (with_one hand kind) thrown) (with_one seen thrown) told (n - 1) (thrown_left melds melded hand seen told know kind inside some nearer not_there thrown low chosen.1)
-            (one_fewer (unseen_of (parts_of (without_one (with_one hand kind) thrown) melds (with_one seen thrown))) (thrown_unseen melds melded hand seen told know kind inside some nearer not_there thrown low chosen.1))
+            later (without_one (with_one hand kind) thrown) (with_one seen thrown) told (n - 1) (thrown_left melds melded AreSame one_less_same hand seen told know kind inside some nearer not_there thrown low chosen.1)
+            (one_fewer (unseen_of (parts_of (without_one (with_one hand kind) thrown) melds (with_one seen thrown))) (thrown_unseen melds melded AreSame one_less_same hand seen told know kind inside some nearer not_there thrown low chosen.1))
 
     by_tests : (t u v : Bool) → u ≡ (true && v) → (a b c : ℕ) → a ≤ most → (t ≡ false → v ≡ true → b ≤ most) → (v ≡ false → c ≤ most) → cond t a (cond u b c) ≤ most
     by_tests true u v e a b c here kept_few passed_few = here
@@ -70,7 +70,7 @@ module _ (melds : List Meld) (melded : (kind : ℕ) → kind < 34 → tiles meld
             let few = by_tests (is_there goal (parts_with (parts_of hand melds seen) kind)) (is_accepted hand melds seen kind) (is_lacked hand melds kind) (ap (λ t. t && is_lacked hand melds kind) (lt-ltb 0 (copies kind) some))
             (all_draws (unseen_of (parts_of hand melds seen) - 1) left) (best_rest (λ rest. draws goal rest left) (parts_with (parts_of hand melds seen) kind)) (draws goal (parts_passed (parts_of hand melds seen) kind) left)
             (omega (arith, ap (λ m. all_draws (m - 1) left) n_is)) (λ not nearer. kept kind inside some nearer not)
-            (λ alone. later hand (with_one seen kind) told (n - 1) (passed melds melded hand seen told know kind inside alone) (one_fewer (unseen_of (parts_of hand melds (with_one seen kind))) (passed_unseen melds melded hand seen told know kind inside some))) in
+            (λ alone. later hand (with_one seen kind) told (n - 1) (passed melds melded AreSame one_less_same hand seen told know kind inside alone) (one_fewer (unseen_of (parts_of hand melds (with_one seen kind))) (passed_unseen melds melded AreSame one_less_same hand seen told know kind inside some))) in
             times_few (copies kind) (copies kind) (after kind) most (omega arith) few
 
     pub sum_few : sum_by (λ kind. copies kind * after kind) every_kind ≤ n * most
@@ -93,4 +93,4 @@ module _ (melds : List Meld) (melded : (kind : ℕ) → kind < 34 → tiles meld
 
 pub chance_law : ChanceLaw
 chance_law goal parts turns is =
-    draws_few parts.melds is.melded goal turns parts.tiles parts.seen parts.seen (unseen_of parts) (record { long = is.each_kind; seen_long = is.each_seen; told_long = is.each_seen; thirteen = is.thirteen; agree = λ kind low lacked. refl }) refl
+    draws_few parts.melds is.melded goal turns parts.tiles parts.seen parts.seen (unseen_of parts) (record { long = is.each_kind; seen_long = is.each_seen; told_long = is.each_seen; thirteen = is.thirteen; alike = λ kind low lacked. refl }) refl

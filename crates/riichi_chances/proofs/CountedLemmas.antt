@@ -1,5 +1,5 @@
 -- The draws of the game are those that the accepted kinds tell.
-use Rattle.std.proofs.Common.{◌≡◌, ◌≢◌, ℕ, zero, suc, ◌+◌, ◌-◌, ◌*◌, ◌<◌, ◌≤◌, Bool, true, false, cond, List, length, get_or-set_other, refl, sym, ap, ◌∙◌, ⊎_elim, arith}
+use Rattle.std.proofs.Common.{◌≡◌, ◌≢◌, ℕ, zero, suc, ◌+◌, ◌-◌, ◌*◌, ◌<◌, ◌≤◌, Bool, true, false, cond, List, length, get_or-set_other, refl, sym, ap, subst, ◌∙◌, ⊎_elim, arith}
 use Rattle.std.proofs.lemmas.Bool.{and_parts, cases_eq, cases_lt, leb-false, lt-ltb, ltb-true, ltb-false}
 use Rattle.std.proofs.lemmas.Bool.Decides.{nat_tests}
 use Rattle.std.proofs.lemmas.List.Sums.{sum_by-set}
@@ -12,7 +12,7 @@ use Rattle.riichi_tiles.specs.declared.meld.Meld.{Meld}
 use Rattle.riichi_tiles.proofs.Members.{IsIn, in-filter-inv, in-range-inv}
 use Rattle.riichi_rows.proofs.Spread.{spread, spread_shift, sum_range}
 use Rattle.riichi_shape.specs.Accepted.{accepted_of, is_accepted, live_of, with_one, without_one}
-use Rattle.riichi_shape.specs.Discards.{distance_without, is_discard}
+use Rattle.riichi_shape.specs.Discards.{is_discard}
 use Rattle.riichi_shape.specs.EveryWinning.{distance_of}
 use Rattle.riichi_shape.specs.LiveCopies.{live_in}
 use Rattle.riichi_shape.proofs.Choices.{leaves_least}
@@ -21,7 +21,7 @@ use Rattle.riichi_deeper.proofs.DrawnLemmas.{more_here, more_other, size_with}
 use Rattle.riichi_deeper.specs.Drawn.{parts_with, parts_without}
 use Rattle.riichi_chances.specs.Counted.{accepts, counted_draws, counted_by, counted_rest, counted_with, accepted_draws, parts_less}
 use Rattle.riichi_chances.specs.Draws.{all_draws, best_rest, draws, draws_behind, is_there, parts_passed, unseen_of}
-use Rattle.riichi_chances.specs.Laws.{CountedLaw}
+use Rattle.riichi_chances.specs.Laws.{CountedLaw, IsFourteen}
 use Rattle.riichi_chances.proofs.LiveDraws.{discard_live, drawn_live, every_but_one, every_same, passed_live}
 use Rattle.riichi_chances.proofs.NearestLemmas.{best_keeps, less_long, lowered_before, more_long, not_thrown}
 use Rattle.riichi_chances.proofs.SumLemmas.{chosen_few, greatest_same, parted, without_chosen}
@@ -41,30 +41,77 @@ parts_of hand melds seen = record { tiles = hand; melds = melds; seen = seen }
 abbrev pub is_lacked : List ℕ → List Meld → ℕ → Bool
 is_lacked hand melds kind = nat_lt (distance_of (with_one hand kind) melds) (distance_of hand melds)
 
--- a hand of thirteen tiles, and two accounts of what is seen which agree on the kinds that bring it nearer
-pub record AgreeOnLacked (hand : List ℕ) (melds : List Meld) (seen told : List ℕ) : Type 0 where
+-- a hand of thirteen tiles, and two accounts of what is seen, by which the live copies of the kinds that bring it nearer are alike
+pub record KnowsLacked (Alike : ℕ → ℕ → Type 0) (hand : List ℕ) (melds : List Meld) (seen told : List ℕ) : Type 0 where
   pub long : length hand ≡ 34
   pub seen_long : length seen ≡ 34
   pub told_long : length told ≡ 34
   pub thirteen : size hand melds ≡ 13
-  pub agree : (kind : ℕ) → kind < 34 → is_lacked hand melds kind ≡ true → live_of hand melds seen kind ≡ live_of hand melds told kind
+  pub alike : (kind : ℕ) → kind < 34 → is_lacked hand melds kind ≡ true → Alike (live_of hand melds seen kind) (live_of hand melds told kind)
 
-module _ (melds : List Meld) (melded : (kind : ℕ) → kind < 34 → tiles melds kind ≤ 4) where
-  module _ (hand seen told : List ℕ) (know : AgreeOnLacked hand melds seen told) where
+abbrev pub AreSame : ℕ → ℕ → Type 0
+AreSame a b = a ≡ b
+
+-- they agree
+abbrev pub AgreeOnLacked : List ℕ → List Meld → List ℕ → List ℕ → Type 0
+AgreeOnLacked = KnowsLacked AreSame
+
+pub one_less_same : (a b : ℕ) → AreSame a b → AreSame (a - 1) (b - 1)
+one_less_same a b e = ap (λ n. n - 1) e
+
+-- a tile that is not lacked brings nothing there
+pub no_nearer : (goal : ℕ) (hand : List ℕ) (melds : List Meld) (seen : List ℕ) → is_there goal (parts_of hand melds seen) ≡ false → (kind : ℕ) → is_lacked hand melds kind ≡ false → is_there goal (parts_with (parts_of hand melds seen) kind) ≡ false
+no_nearer goal hand melds seen far kind not = told_far (distance_of (with_one hand kind) melds) (omega (arith, leb-false (distance_of hand melds) goal far, ltb-false (distance_of (with_one hand kind) melds) (distance_of hand melds) not))
+  where
+    told_far : (d : ℕ) → goal < d → nat_le d goal ≡ false
+    told_far d more = grind (arith, nat_tests)
+
+module _ (melds : List Meld) (melded : (kind : ℕ) → kind < 34 → tiles melds kind ≤ 4) (Alike : ℕ → ℕ → Type 0) where
+  -- a best discard of fourteen tiles that are not complete: what is lacked then was not thrown
+  module _ (drawn seen told : List ℕ) (long : length drawn ≡ 34) (seen_long : length seen ≡ 34) (told_long : length told ≡ 34) (fourteen : size drawn melds ≡ 14) (far : 0 < distance_of drawn melds) (thrown : ℕ) (low : thrown < 34) (best : is_discard drawn melds thrown ≡ true)
+      (alike : (other : ℕ) → other < 34 → is_lacked (without_one drawn thrown) melds other ≡ true → Alike (live_of drawn melds seen other) (live_of drawn melds told other)) where
     few : length melds ≤ 4
-    few = omega (arith, know.thirteen)
+    few = omega (arith, fourteen)
+
+    held : 0 < slice_index drawn thrown
+    held = (leaves_least drawn melds thrown low best).held
+
+    thirteen_left : size (without_one drawn thrown) melds ≡ 13
+    thirteen_left = omega (arith, sum_by-set (λ (n : ℕ). n) drawn thrown (slice_index drawn thrown - 1) 0 (omega (arith, long, low)), fourteen, held)
+
+    alike_left : (other : ℕ) → other < 34 → is_lacked (without_one drawn thrown) melds other ≡ true → Alike (live_of (without_one drawn thrown) melds (with_one seen thrown) other) (live_of (without_one drawn thrown) melds told other)
+    alike_left other small lacked =
+        let lowers = ltb-true (distance_of (with_one (without_one drawn thrown) other) melds) (distance_of (without_one drawn thrown) melds) lacked in
+        subst (λ n. Alike n (live_of (without_one drawn thrown) melds told other)) (sym (discard_live drawn melds seen thrown (omega (arith, long, low)) (omega (arith, seen_long, low)) held other))
+        (subst (Alike (live_of drawn melds seen other)) (sym (kept_live (not_thrown drawn melds few melded long thrown low held (best_keeps drawn melds long fourteen melded thrown low best far) other small lowers))) (alike other small lacked))
+      where
+        kept_live : other ≢ thrown → live_of (without_one drawn thrown) melds told other ≡ live_of drawn melds told other
+        kept_live ne = omega (arith, get_or-set_other drawn thrown other (slice_index drawn thrown - 1) 0 ne)
+
+    pub knows_left : KnowsLacked Alike (without_one drawn thrown) melds (with_one seen thrown) told
+    knows_left = record {
+      long = less_long drawn thrown long;
+      seen_long = more_long seen thrown seen_long;
+      told_long = told_long;
+      thirteen = thirteen_left;
+      alike = alike_left;
+    }
+
+  module _ (one_less : (a b : ℕ) → Alike a b → Alike (a - 1) (b - 1)) (hand seen told : List ℕ) (know : KnowsLacked Alike hand melds seen told) where
+    few_melds : length melds ≤ 4
+    few_melds = omega (arith, know.thirteen)
 
     abbrev live : ℕ → ℕ
     live = live_of hand melds seen
 
     -- a tile that is thrown at once is not lacked
-    pub passed : (kind : ℕ) → kind < 34 → is_lacked hand melds kind ≡ false → AgreeOnLacked hand melds (with_one seen kind) told
+    pub passed : (kind : ℕ) → kind < 34 → is_lacked hand melds kind ≡ false → KnowsLacked Alike hand melds (with_one seen kind) told
     passed kind inside not = record {
       long = know.long;
       seen_long = more_long seen kind know.seen_long;
       told_long = know.told_long;
       thirteen = know.thirteen;
-      agree = λ other low lacked. omega (arith, know.agree other low lacked, more_other seen kind other (λ same. differ other lacked same));
+      alike = λ other low lacked. subst (λ n. Alike n (live_of hand melds told other)) (sym (same_live other (λ same. differ other lacked same))) (know.alike other low lacked);
     }
       where
         differ : (other : ℕ) → is_lacked hand melds other ≡ true → other ≡ kind → ⊥
@@ -72,6 +119,9 @@ module _ (melds : List Meld) (melded : (kind : ℕ) → kind < 34 → tiles meld
           where
             no : true ≡ false → ⊥
             no e = cc
+
+        same_live : (other : ℕ) → other ≢ kind → live_of hand melds (with_one seen kind) other ≡ live_of hand melds seen other
+        same_live other ne = omega (arith, more_other seen kind other ne)
 
     pub passed_unseen : (kind : ℕ) → kind < 34 → 0 < live kind → unseen_of (parts_of hand melds seen) ≡ unseen_of (parts_of hand melds (with_one seen kind)) + 1
     unfolding unseen_of
@@ -89,49 +139,42 @@ module _ (melds : List Meld) (melded : (kind : ℕ) → kind < 34 → tiles meld
       fourteen : size drawn melds ≡ 14
       fourteen = omega (arith, size_with hand melds kind (omega (arith, know.long, inside)), know.thirteen)
 
-      held : 0 < slice_index drawn thrown
-      held = (leaves_least drawn melds thrown low best).held
+      held_then : 0 < slice_index drawn thrown
+      held_then = (leaves_least drawn melds thrown low best).held
 
-      keeps : distance_without drawn melds thrown ≡ distance_of drawn melds
-      keeps = best_keeps drawn melds drawn_long fourteen melded thrown low best far
+      one_drawn : (other : ℕ) → Alike (live_of hand melds seen other) (live_of hand melds told other) → Alike (live_of drawn melds seen other) (live_of drawn melds told other)
+      one_drawn other same = ⊎_elim here there (cases_eq other kind)
+        where
+          here : other ≡ kind → Alike (live_of drawn melds seen other) (live_of drawn melds told other)
+          here e = subst (λ n. Alike n (live_of drawn melds told other)) (sym (fewer seen)) (subst (Alike (live_of hand melds seen other - 1)) (sym (fewer told)) (one_less (live_of hand melds seen other) (live_of hand melds told other) same))
+            where
+              fewer : (elsewhere : List ℕ) → live_of drawn melds elsewhere other ≡ live_of hand melds elsewhere other - 1
+              fewer elsewhere = omega (arith, more_here hand kind (omega (arith, know.long, inside)), ap (slice_index hand) e, ap (slice_index drawn) e)
 
-      thirteen_left : size (without_one drawn thrown) melds ≡ 13
-      thirteen_left = omega (arith, sum_by-set (λ (n : ℕ). n) drawn thrown (slice_index drawn thrown - 1) 0 (omega (arith, drawn_long, low)), fourteen, held)
+          there : other ≢ kind → Alike (live_of drawn melds seen other) (live_of drawn melds told other)
+          there ne = subst (λ n. Alike n (live_of drawn melds told other)) (sym (as_many seen)) (subst (Alike (live_of hand melds seen other)) (sym (as_many told)) same)
+            where
+              as_many : (elsewhere : List ℕ) → live_of drawn melds elsewhere other ≡ live_of hand melds elsewhere other
+              as_many elsewhere = omega (arith, more_other hand kind other ne)
 
-      agree_left : (other : ℕ) → other < 34 → is_lacked (without_one drawn thrown) melds other ≡ true → live_of (without_one drawn thrown) melds (with_one seen thrown) other ≡ live_of (without_one drawn thrown) melds told other
-      agree_left other small lacked =
+      lacked_then : (other : ℕ) → other < 34 → is_lacked (without_one drawn thrown) melds other ≡ true → Alike (live_of drawn melds seen other) (live_of drawn melds told other)
+      lacked_then other small lacked =
           let lowers = ltb-true (distance_of (with_one (without_one drawn thrown) other) melds) (distance_of (without_one drawn thrown) melds) lacked in
           let closer = ltb-true (distance_of drawn melds) (distance_of hand melds) nearer in
-          let before = lowered_before hand melds few melded know.long kind thrown inside low held closer keeps other small lowers in
-          let same = know.agree other small (lt-ltb (distance_of (with_one hand other) melds) (distance_of hand melds) before) in
-          discard_live drawn melds seen thrown (omega (arith, drawn_long, low)) (omega (arith, know.seen_long, low)) held other
-          ∙ one_drawn other same
-          ∙ sym (kept_live other (not_thrown hand melds few melded know.long kind thrown inside low held closer keeps other small lowers))
-        where
-          kept_live : (other : ℕ) → other ≢ thrown → live_of (without_one drawn thrown) melds told other ≡ live_of drawn melds told other
-          kept_live other ne = omega (arith, get_or-set_other drawn thrown other (slice_index drawn thrown - 1) 0 ne)
+          let keeps = best_keeps drawn melds drawn_long fourteen melded thrown low best far in
+          let before = lowered_before hand melds few_melds melded know.long kind thrown inside low held_then closer keeps other small lowers in
+          one_drawn other (know.alike other small (lt-ltb (distance_of (with_one hand other) melds) (distance_of hand melds) before))
 
-          one_drawn : (other : ℕ) → live_of hand melds seen other ≡ live_of hand melds told other → live_of drawn melds seen other ≡ live_of drawn melds told other
-          one_drawn other same = ⊎_elim (λ e. here e) (λ ne. omega (arith, same, more_other hand kind other ne)) (cases_eq other kind)
-            where
-              here : other ≡ kind → live_of drawn melds seen other ≡ live_of drawn melds told other
-              here e = omega (arith, same, more_here hand kind (omega (arith, know.long, inside)), ap (slice_index hand) e, ap (slice_index drawn) e)
-
-      pub thrown_left : AgreeOnLacked (without_one drawn thrown) melds (with_one seen thrown) told
-      thrown_left = record {
-        long = less_long drawn thrown drawn_long;
-        seen_long = more_long seen thrown know.seen_long;
-        told_long = know.told_long;
-        thirteen = thirteen_left;
-        agree = agree_left;
-      }
+      pub thrown_left : KnowsLacked Alike (without_one drawn thrown) melds (with_one seen thrown) told
+      thrown_left = knows_left drawn seen told drawn_long know.seen_long know.told_long fourteen far thrown low best lacked_then
 
       pub thrown_unseen : unseen_of (parts_of hand melds seen) ≡ unseen_of (parts_of (without_one drawn thrown) melds (with_one seen thrown)) + 1
       unfolding unseen_of
       thrown_unseen =
           every_but_one live (live_of drawn melds seen) kind inside (drawn_live hand melds seen kind (omega (arith, know.long, inside)) some)
-          ∙ ap (λ n. n + 1) (sym (every_same (live_of (without_one drawn thrown) melds (with_one seen thrown)) (live_of drawn melds seen) (λ k small. discard_live drawn melds seen thrown (omega (arith, drawn_long, low)) (omega (arith, know.seen_long, low)) held k)))
+          ∙ ap (λ n. n + 1) (sym (every_same (live_of (without_one drawn thrown) melds (with_one seen thrown)) (live_of drawn melds seen) (λ k small. discard_live drawn melds seen thrown (omega (arith, drawn_long, low)) (omega (arith, know.seen_long, low)) held_then k)))
 
+module _ (melds : List Meld) (melded : (kind : ℕ) → kind < 34 → tiles melds kind ≤ 4) where
   -- ---- both accounts accept the same
 
   module _ (hand seen told : List ℕ) (know : AgreeOnLacked hand melds seen told) where
@@ -146,7 +189,7 @@ module _ (melds : List Meld) (melded : (kind : ℕ) → kind < 34 → tiles meld
     pub same_accepted : (f : ℕ → ℕ → ℕ) → spread (λ k. cond (is_accepted hand melds seen k) (f k (live_of hand melds seen k)) 0) 0 34 ≡ spread (λ k. cond (is_accepted hand melds told k) (f k (live_of hand melds told k)) 0) 0 34
     same_accepted f =
         spread_shift (λ k. cond (is_accepted hand melds seen k) (f k (live_of hand melds seen k)) 0) (λ k. cond (is_accepted hand melds told k) (f k (live_of hand melds told k)) 0) 0 0 34
-        (λ k low. same_at (0 + k) (f (0 + k)) (live_of hand melds seen (0 + k)) (live_of hand melds told (0 + k)) (is_lacked hand melds (0 + k)) (know.agree (0 + k) (omega arith)))
+        (λ k low. same_at (0 + k) (f (0 + k)) (live_of hand melds seen (0 + k)) (live_of hand melds told (0 + k)) (is_lacked hand melds (0 + k)) (know.alike (0 + k) (omega arith)))
 
   -- ---- one turn
 
@@ -187,8 +230,8 @@ module _ (melds : List Meld) (melded : (kind : ℕ) → kind < 34 → tiles meld
         each thrown there =
             let chosen = in-filter-inv (is_discard (with_one hand kind) melds) thrown every_kind there in
             let low : thrown < 34 = omega (arith, (in-range-inv 34 0 thrown chosen.0).1) in
-            later (without_one (with_one hand kind) thrown) (with_one seen thrown) told (n - 1) (thrown_left hand seen told know kind inside some nearer not_there thrown low chosen.1)
-            (one_fewer (unseen_of (parts_of (without_one (with_one hand kind) thrown) melds (with_one seen thrown))) (thrown_unseen hand seen told know kind inside some nearer not_there thrown low chosen.1))
+            later (without_one (with_one hand kind) thrown) (with_one seen thrown) told (n - 1) (thrown_left melds melded AreSame one_less_same hand seen told know kind inside some nearer not_there thrown low chosen.1)
+            (one_fewer (unseen_of (parts_of (without_one (with_one hand kind) thrown) melds (with_one seen thrown))) (thrown_unseen melds melded AreSame one_less_same hand seen told know kind inside some nearer not_there thrown low chosen.1))
 
     accepted_value : (kind : ℕ) → kind < 34 → is_accepted hand melds seen kind ≡ true → after kind ≡ by kind
     unfolding counted_with
@@ -201,12 +244,6 @@ module _ (melds : List Meld) (melded : (kind : ℕ) → kind < 34 → tiles meld
         by_test true u is e here there = here
         by_test false true is e here there = there refl
         by_test false false is e here there = absurd (cc)
-
-    no_nearer : (kind : ℕ) → is_lacked hand melds kind ≡ false → is_there goal (parts_with (parts_of hand melds seen) kind) ≡ false
-    no_nearer kind not = told_far (distance_of (with_one hand kind) melds) (omega (arith, leb-false (distance_of hand melds) goal far, ltb-false (distance_of (with_one hand kind) melds) (distance_of hand melds) not))
-      where
-        told_far : (d : ℕ) → goal < d → nat_le d goal ≡ false
-        told_far d more = grind (arith, nat_tests)
 
     other_value : (kind : ℕ) → kind < 34 → is_accepted hand melds seen kind ≡ false → copies kind * after kind ≡ copies kind * common
     other_value kind inside not = ⊎_elim some_live (λ none. no_live (copies kind) (after kind) common (omega (arith, none))) (cases_lt 0 (copies kind))
@@ -227,8 +264,8 @@ module _ (melds : List Meld) (melded : (kind : ℕ) → kind < 34 → tiles meld
         some_live some =
             let alone = not_lacked (nat_lt 0 (copies kind)) (is_lacked hand melds kind) not (lt-ltb 0 (copies kind) some) in
             ap (λ m. copies kind * m)
-            (by_test (all_draws (unseen_of (parts_of hand melds seen) - 1) left) (best_rest drawn_value (parts_with (parts_of hand melds seen) kind)) (is_there goal (parts_with (parts_of hand melds seen) kind)) (is_accepted hand melds seen kind) (no_nearer kind alone) not
-            (later hand (with_one seen kind) told (n - 1) (passed hand seen told know kind inside alone) (one_fewer (unseen_of (parts_of hand melds (with_one seen kind))) (passed_unseen hand seen told know kind inside some))))
+            (by_test (all_draws (unseen_of (parts_of hand melds seen) - 1) left) (best_rest drawn_value (parts_with (parts_of hand melds seen) kind)) (is_there goal (parts_with (parts_of hand melds seen) kind)) (is_accepted hand melds seen kind) (no_nearer goal hand melds seen far kind alone) not
+            (later hand (with_one seen kind) told (n - 1) (passed melds melded AreSame one_less_same hand seen told know kind inside alone) (one_fewer (unseen_of (parts_of hand melds (with_one seen kind))) (passed_unseen melds melded AreSame one_less_same hand seen told know kind inside some))))
 
     pub one_turn : sum_by (λ kind. copies kind * after kind) every_kind ≡ (n - live_in (accepts (parts_of hand melds told))) * common + accepted_draws goal (n - 1) left told_value (parts_of hand melds told)
     unfolding accepted_draws unseen_of
@@ -257,4 +294,16 @@ module _ (melds : List Meld) (melded : (kind : ℕ) → kind < 34 → tiles meld
 
 pub counted_law : CountedLaw
 counted_law goal parts turns is =
-    draws_counted parts.melds is.melded goal turns parts.tiles parts.seen parts.seen (unseen_of parts) (record { long = is.each_kind; seen_long = is.each_seen; told_long = is.each_seen; thirteen = is.thirteen; agree = λ kind low lacked. refl }) refl
+    draws_counted parts.melds is.melded goal turns parts.tiles parts.seen parts.seen (unseen_of parts) (record { long = is.each_kind; seen_long = is.each_seen; told_long = is.each_seen; thirteen = is.thirteen; alike = λ kind low lacked. refl }) refl
+
+pub discard_unseen : (drawn : ShapeParts) → IsFourteen drawn → (kind : ℕ) → kind < 34 → 0 < slice_index drawn.tiles kind → unseen_of drawn ≡ unseen_of (parts_without drawn kind)
+unfolding unseen_of
+discard_unseen drawn is kind low held =
+    sym (every_same (live_of (without_one drawn.tiles kind) drawn.melds (with_one drawn.seen kind)) (live_of drawn.tiles drawn.melds drawn.seen) (λ k small. discard_live drawn.tiles drawn.melds drawn.seen kind (omega (arith, is.each_kind, low)) (omega (arith, is.each_seen, low)) held k))
+
+-- after a best discard of fourteen tiles that are not complete, which is seen then: what it took is accepted no more
+pub discard_counted : (goal turns kind : ℕ) (drawn : ShapeParts) → IsFourteen drawn → 0 < distance_of drawn.tiles drawn.melds → kind < 34 → is_discard drawn.tiles drawn.melds kind ≡ true →
+    draws goal (parts_without drawn kind) turns ≡ counted_draws goal (parts_less drawn kind) (unseen_of drawn) turns
+discard_counted goal turns kind drawn is far low best =
+    draws_counted drawn.melds is.melded goal turns (without_one drawn.tiles kind) (with_one drawn.seen kind) drawn.seen (unseen_of drawn) (knows_left drawn.melds is.melded AreSame drawn.tiles drawn.seen drawn.seen is.each_kind is.each_seen is.each_seen is.fourteen far kind low best (λ other small lacked. refl))
+    (discard_unseen drawn is kind low (leaves_least drawn.tiles drawn.melds kind low best).held)

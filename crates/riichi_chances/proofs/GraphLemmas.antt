@@ -1,5 +1,5 @@
 -- Hands at their places, and what the draws of a hand lead to.
-use Rattle.std.proofs.Common.{◌≡◌, ℕ, suc, ◌+◌, ◌*◌, ◌<◌, ◌≤◌, Bool, true, false, cond, max, not, List, [], ◌∷◌, ◌++◌, length, drop, None, Option, Some, get_or, position, IfSome, refl, sym, ap, subst, ◌∙◌, ⊎_elim, arith, length-append}
+use Rattle.std.proofs.Common.{◌≡◌, ℕ, suc, ◌+◌, ◌*◌, ◌<◌, ◌≤◌, Bool, true, false, cond, max, not, List, [], ◌∷◌, ◌++◌, map, length, drop, None, Option, Some, get_or, position, IfSome, refl, sym, ap, subst, ◌∙◌, ⊎_elim, arith, length-append}
 use Rattle.std.proofs.Math.Seq.{drop-cons}
 use Rattle.std.proofs.lemmas.Bool.{cases_eq}
 use Rattle.std.proofs.lemmas.List.{get_or_append_left, get_or_push}
@@ -12,7 +12,7 @@ use Rattle.std.specs.Prelude.{nat_eq, slice_get, slice_index_or}
 use Rattle.riichi_hand.specs.HandParts.{ShapeParts}
 use Rattle.riichi_tiles.specs.declared.meld.Meld.{Meld}
 use Rattle.riichi_chances.specs.Draws.{greatest}
-use Rattle.riichi_chances.specs.Graph.{AreBefore, Grows, IsGraph, IsMore, IsNode, IsPlaceOf, LeadBefore, LeadTo, draw_value, draws_value, hand_at}
+use Rattle.riichi_chances.specs.Graph.{AreBefore, Grows, IsGraph, IsMore, IsNode, IsPlaceOf, LeadBefore, LeadTo, draw_value, draws_value, placed_hand}
 use Rattle.riichi_chances.specs.declared.graph.Draw.{Draw}
 use Rattle.riichi_chances.specs.declared.graph.Graph.{Graph}
 use Rattle.riichi_chances.specs.declared.graph.Node.{Node}
@@ -24,10 +24,9 @@ unfolding greatest
 greatest_places f g most [] before same = refl
 greatest_places f g most (p ∷ ps) before same = ap (λ n. max n (greatest f ps)) (same p (before 0 (omega arith))) ∙ ap (max (g p)) (greatest_places f g most ps (λ k low. before (suc k) (omega (arith, low))) same)
 
-pub greatest_push : (f : ℕ → ℕ) (places : List ℕ) (p : ℕ) → greatest f (places ++ p ∷ []) ≡ max (greatest f places) (f p)
-unfolding greatest
-greatest_push f [] p = omega arith
-greatest_push f (q ∷ qs) p = omega (arith, greatest_push f qs p)
+pub map_places : (f g : ℕ → List ℕ) (most : ℕ) (places : List ℕ) → AreBefore most places → ((p : ℕ) → p < most → f p ≡ g p) → map f places ≡ map g places
+map_places f g most [] before same = refl
+map_places f g most (p ∷ ps) before same = ap (λ (hand : List ℕ). hand ∷ map f ps) (same p (before 0 (omega arith))) ∙ ap (λ (hands : List (List ℕ)). g p ∷ hands) (map_places f g most ps (λ k low. before (suc k) (omega (arith, low))) same)
 
 greatest_more : (f : ℕ → ℕ) (p : ℕ) (ps : List ℕ) → greatest f (p ∷ ps) ≡ max (f p) (greatest f ps)
 unfolding greatest
@@ -44,11 +43,11 @@ greatest_drop f places i p low e =
     one : (n : ℕ) → suc n ≡ n + 1
     one n = omega arith
 
-pub draws_same : (f g : ℕ → ℕ) (most : ℕ) (draws : List Draw) → LeadBefore most draws → ((p : ℕ) → p < most → f p ≡ g p) → draws_value f draws ≡ draws_value g draws
-draws_same f g most [] before same = refl
-draws_same f g most (d ∷ ds) before same =
-    sum_by-cons (draw_value f) d ds ∙ ap (λ n. d.live * n + draws_value f ds) (greatest_places f g most d.rests.items (before 0 d (omega arith)) same)
-    ∙ ap (λ n. draw_value g d + n) (draws_same f g most ds (λ at e low. before (suc at) e (omega (arith, low))) same) ∙ sym (sum_by-cons (draw_value g) d ds)
+pub draws_same : (f g : ℕ → ℕ) (least most : ℕ) (draws : List Draw) → LeadBefore most draws → ((p : ℕ) → p < most → f p ≡ g p) → draws_value f least draws ≡ draws_value g least draws
+draws_same f g least most [] before same = refl
+draws_same f g least most (d ∷ ds) before same =
+    sum_by-cons (draw_value f least) d ds ∙ ap (λ n. d.live * max n least + draws_value f least ds) (greatest_places f g most d.rests.items (before 0 d (omega arith)) same)
+    ∙ ap (λ n. draw_value g least d + n) (draws_same f g least most ds (λ at e low. before (suc at) e (omega (arith, low))) same) ∙ sym (sum_by-cons (draw_value g least) d ds)
 
 -- ---- more hands
 
@@ -58,15 +57,15 @@ more_same hands = record { longer = omega arith; same = λ p low. refl }
 pub more_after : (one two three : List (List ℕ)) → IsMore one two → IsMore two three → IsMore one three
 more_after one two three f g = record { longer = omega (arith, f.longer, g.longer); same = λ p low. g.same p (omega (arith, low, f.longer)) ∙ f.same p low }
 
-pub hands_same : (parts : ShapeParts) (before after : List (List ℕ)) → IsMore before after → (value : ShapeParts → ℕ) (p : ℕ) → p < length before → value (hand_at parts before p) ≡ value (hand_at parts after p)
+pub hands_same : (parts : ShapeParts) (before after : List (List ℕ)) → IsMore before after → (value : ShapeParts → ℕ) (p : ℕ) → p < length before → value (placed_hand parts before p) ≡ value (placed_hand parts after p)
 hands_same parts before after more value p low = ap (λ (tiles : List ℕ). value (record { tiles = tiles; melds = parts.melds; seen = parts.seen })) (sym (more.same p low))
 
 pub before_grown : (most more : ℕ) (draws : List Draw) → most ≤ more → LeadBefore most draws → LeadBefore more draws
 before_grown most more draws few before at draw low k small = omega (arith, before at draw low k small, few)
 
 pub leads_grown : (parts : ShapeParts) (before after : List (List ℕ)) (most : ℕ) (draws : List Draw) → IsMore before after → most ≤ length before → LeadBefore most draws → LeadTo before draws parts → LeadTo after draws parts
-leads_grown parts before after most draws more few lead to value =
-    sym (draws_same (λ p. value (hand_at parts before p)) (λ p. value (hand_at parts after p)) most draws lead (λ p low. hands_same parts before after more value p (omega (arith, low, few)))) ∙ to value
+leads_grown parts before after most draws more few lead to value least =
+    sym (draws_same (λ p. value (placed_hand parts before p)) (λ p. value (placed_hand parts after p)) least most draws lead (λ p low. hands_same parts before after more value p (omega (arith, low, few)))) ∙ to value least
 
 pub node_grown : (before after : List (List ℕ)) (place : ℕ) (parts : ShapeParts) (node : Node) → IsMore before after → place ≤ length before → IsNode before place parts node → IsNode after place parts node
 node_grown before after place parts node more few is =
@@ -75,7 +74,7 @@ node_grown before after place parts node more few is =
 -- ---- one more hand
 
 module _ (root : ShapeParts) (before after : Graph) (hand : List ℕ) (node : Node) (is : IsGraph root before) (hands_are : after.hands.keys ≡ before.hands.keys ++ hand ∷ []) (nodes_are : after.nodes.items ≡ before.nodes.items ++ node ∷ [])
-    (new : IsNode before.hands.keys (length before.nodes.items) (record { tiles = hand; melds = root.melds; seen = root.seen }) node) where
+    (new : IsNode before.hands.keys (length before.nodes.items) (record { tiles = hand; melds = root.melds; seen = root.seen }) node) (room : length before.nodes.items < after.most_hands) where
   more_hands : length after.hands.keys ≡ length before.hands.keys + 1
   more_hands = ap length hands_are ∙ length-append before.hands.keys (hand ∷ [])
 
@@ -92,30 +91,31 @@ module _ (root : ShapeParts) (before after : Graph) (hand : List ℕ) (node : No
   here_node n = ap (λ (ns : List Node). slice_index_or ns (length before.nodes.items) n) nodes_are ∙ get_or_push before.nodes.items node n (length before.nodes.items) refl
 
   pub taken_graph : IsGraph root after
-  taken_graph = record { each = omega (arith, more_hands, more_nodes, is.each); node = λ p n low. ⊎_elim (at_last p n) (λ ne. earlier p n (omega (arith, more_nodes, low, ne))) (cases_eq p (length before.nodes.items)) }
+  taken_graph = record { each = omega (arith, more_hands, more_nodes, is.each); few = omega (arith, more_nodes, room); node = λ p n low. ⊎_elim (at_last p n) (λ ne. earlier p n (omega (arith, more_nodes, low, ne))) (cases_eq p (length before.nodes.items)) }
     where
-      earlier : (p : ℕ) (n : Node) → p < length before.nodes.items → IsNode after.hands.keys p (hand_at root after.hands.keys p) (slice_index_or after.nodes.items p n)
+      earlier : (p : ℕ) (n : Node) → p < length before.nodes.items → IsNode after.hands.keys p (placed_hand root after.hands.keys p) (slice_index_or after.nodes.items p n)
       earlier p n low =
-          subst (λ (nd : Node). IsNode after.hands.keys p (hand_at root after.hands.keys p) nd) (sym (ap (λ (ns : List Node). slice_index_or ns p n) nodes_are ∙ get_or_append_left before.nodes.items (node ∷ []) n p low))
+          subst (λ (nd : Node). IsNode after.hands.keys p (placed_hand root after.hands.keys p) nd) (sym (ap (λ (ns : List Node). slice_index_or ns p n) nodes_are ∙ get_or_append_left before.nodes.items (node ∷ []) n p low))
           (subst (λ (tiles : List ℕ). IsNode after.hands.keys p (record { tiles = tiles; melds = root.melds; seen = root.seen }) (slice_index_or before.nodes.items p n)) (sym (taken_more.same p (omega (arith, low, is.each))))
-          (node_grown before.hands.keys after.hands.keys p (hand_at root before.hands.keys p) (slice_index_or before.nodes.items p n) taken_more (omega (arith, low, is.each)) (is.node p n low)))
+          (node_grown before.hands.keys after.hands.keys p (placed_hand root before.hands.keys p) (slice_index_or before.nodes.items p n) taken_more (omega (arith, low, is.each)) (is.node p n low)))
 
-      there : (n : Node) → IsNode after.hands.keys (length before.nodes.items) (hand_at root after.hands.keys (length before.nodes.items)) (slice_index_or after.nodes.items (length before.nodes.items) n)
+      there : (n : Node) → IsNode after.hands.keys (length before.nodes.items) (placed_hand root after.hands.keys (length before.nodes.items)) (slice_index_or after.nodes.items (length before.nodes.items) n)
       there n =
-          subst (λ (nd : Node). IsNode after.hands.keys (length before.nodes.items) (hand_at root after.hands.keys (length before.nodes.items)) nd) (sym (here_node n))
+          subst (λ (nd : Node). IsNode after.hands.keys (length before.nodes.items) (placed_hand root after.hands.keys (length before.nodes.items)) nd) (sym (here_node n))
           (subst (λ (tiles : List ℕ). IsNode after.hands.keys (length before.nodes.items) (record { tiles = tiles; melds = root.melds; seen = root.seen }) node) (sym here_hand)
           (node_grown before.hands.keys after.hands.keys (length before.nodes.items) (record { tiles = hand; melds = root.melds; seen = root.seen }) node taken_more (omega (arith, is.each)) new))
 
-      at_last : (p : ℕ) (n : Node) → p ≡ length before.nodes.items → IsNode after.hands.keys p (hand_at root after.hands.keys p) (slice_index_or after.nodes.items p n)
-      at_last p n e = subst (λ (q : ℕ). IsNode after.hands.keys q (hand_at root after.hands.keys q) (slice_index_or after.nodes.items q n)) (sym e) (there n)
+      at_last : (p : ℕ) (n : Node) → p ≡ length before.nodes.items → IsNode after.hands.keys p (placed_hand root after.hands.keys p) (slice_index_or after.nodes.items p n)
+      at_last p n e = subst (λ (q : ℕ). IsNode after.hands.keys q (placed_hand root after.hands.keys q) (slice_index_or after.nodes.items q n)) (sym e) (there n)
 
 -- the graph is the same
-pub same_graph : (root : ShapeParts) (before after : Graph) → IsGraph root before → after.hands.keys ≡ before.hands.keys → after.nodes.items ≡ before.nodes.items → IsGraph root after
-same_graph root before after is hands_are nodes_are = record {
+pub same_graph : (root : ShapeParts) (before after : Graph) → IsGraph root before → after.hands.keys ≡ before.hands.keys → after.nodes.items ≡ before.nodes.items → after.most_hands ≡ before.most_hands → IsGraph root after
+same_graph root before after is hands_are nodes_are most_is = record {
   each = ap length hands_are ∙ is.each ∙ sym (ap length nodes_are);
+  few = omega (arith, ap length nodes_are, most_is, is.few);
   node = λ p n low.
-      subst (λ (ns : List Node). IsNode after.hands.keys p (hand_at root after.hands.keys p) (slice_index_or ns p n)) (sym nodes_are)
-      (subst (λ (ks : List (List ℕ)). IsNode ks p (hand_at root ks p) (slice_index_or before.nodes.items p n)) (sym hands_are) (is.node p n (omega (arith, low, ap length nodes_are))));
+      subst (λ (ns : List Node). IsNode after.hands.keys p (placed_hand root after.hands.keys p) (slice_index_or ns p n)) (sym nodes_are)
+      (subst (λ (ks : List (List ℕ)). IsNode ks p (placed_hand root ks p) (slice_index_or before.nodes.items p n)) (sym hands_are) (is.node p n (omega (arith, low, ap length nodes_are))));
 }
 
 pub same_more : (before after : List (List ℕ)) → after ≡ before → IsMore before after
@@ -151,16 +151,17 @@ known_place graph parts hand (Some place) is hand_is e =
 pub same_root : (one other : ShapeParts) (graph : Graph) → one.melds ≡ other.melds → one.seen ≡ other.seen → IsGraph one graph → IsGraph other graph
 same_root one other graph e f is = record {
   each = is.each;
+  few = is.few;
   node = λ p n low.
       subst (λ (ms : List Meld). IsNode graph.hands.keys p (record { tiles = slice_index_or graph.hands.keys p []; melds = ms; seen = other.seen }) (slice_index_or graph.nodes.items p n)) e
       (subst (λ (s : List ℕ). IsNode graph.hands.keys p (record { tiles = slice_index_or graph.hands.keys p []; melds = one.melds; seen = s }) (slice_index_or graph.nodes.items p n)) f (is.node p n low));
 }
 
 pub grows_same : (root : ShapeParts) (graph : Graph) → IsGraph root graph → Grows root graph graph
-grows_same root graph is = record { whole = is; more = more_same graph.hands.keys }
+grows_same root graph is = record { whole = is; more = more_same graph.hands.keys; most = refl }
 
 pub grows_after : (root : ShapeParts) (one two three : Graph) → Grows root one two → Grows root two three → Grows root one three
-grows_after root one two three f g = record { whole = g.whole; more = more_after one.hands.keys two.hands.keys three.hands.keys f.more g.more }
+grows_after root one two three f g = record { whole = g.whole; more = more_after one.hands.keys two.hands.keys three.hands.keys f.more g.more; most = g.most ∙ f.most }
 
 pub grows_root : (one other : ShapeParts) (before after : Graph) → one.melds ≡ other.melds → one.seen ≡ other.seen → Grows one before after → Grows other before after
-grows_root one other before after e f grows = record { whole = same_root one other after e f grows.whole; more = grows.more }
+grows_root one other before after e f grows = record { whole = same_root one other after e f grows.whole; more = grows.more; most = grows.most }

@@ -7,6 +7,8 @@ pub mod CountingLemmas
 pub mod GraphLemmas
 pub mod LiveDraws
 pub mod NearestLemmas
+pub mod PlayLemmas
+pub mod ReachableLemmas
 pub mod RowLemmas
 pub mod SpanLemmas
 pub mod SumLemmas

@@ -37,29 +37,24 @@ best_keeps hand melds long fourteen melded kind inside best some =
     let left = least_is hand melds long fourteen melded (distance_of hand melds) least refl refl in
     omega (arith, eqb-true (distance_without hand melds kind) least (chosen_is hand melds least left kind inside held ∙ best), some)
 
-module _ (hand : List ℕ) (melds : List Meld) (few : length melds ≤ 4) (melded : (kind : ℕ) → kind < 34 → tiles melds kind ≤ 4) (long : length hand ≡ 34) (drawn thrown : ℕ) (drawn_in : drawn < 34) (thrown_in : thrown < 34)
-    (held : 0 < slice_index (with_one hand drawn) thrown) (nearer : distance_of (with_one hand drawn) melds < distance_of hand melds) (keeps : distance_without (with_one hand drawn) melds thrown ≡ distance_of (with_one hand drawn) melds) where
-  abbrev more : List ℕ
-  more = with_one hand drawn
-
+-- a best discard of fourteen tiles
+module _ (more : List ℕ) (melds : List Meld) (few : length melds ≤ 4) (melded : (kind : ℕ) → kind < 34 → tiles melds kind ≤ 4) (long : length more ≡ 34) (thrown : ℕ) (thrown_in : thrown < 34)
+    (held : 0 < slice_index more thrown) (keeps : distance_without more melds thrown ≡ distance_of more melds) where
   abbrev rest : List ℕ
   rest = without_one more thrown
 
   reached : (h : List ℕ) → IsDistance h melds (distance_of h melds)
   reached h = distance_reached h melds few melded
 
-  gained : IsOneMore drawn hand more
-  gained = one_more_of hand drawn long drawn_in
-
-  lost : IsOneMore thrown rest more
-  lost = one_less more rest thrown (slice_index more thrown - 1) (omega (arith, more_long hand drawn long, thrown_in)) refl (omega (arith, held))
+  pub lost : IsOneMore thrown rest more
+  lost = one_less more rest thrown (slice_index more thrown - 1) (omega (arith, long, thrown_in)) refl (omega (arith, held))
 
   module _ (kind : ℕ) (inside : kind < 34) (lowers : distance_of (with_one rest kind) melds < distance_of rest melds) where
-    lacks : WinningLacks rest melds (distance_of rest melds) kind
+    pub lacks : WinningLacks rest melds (distance_of rest melds) kind
     lacks =
-        (accepted rest (with_one rest kind) melds (distance_of rest melds) (distance_of (with_one rest kind) melds) kind inside (one_more_of rest kind (less_long more thrown (more_long hand drawn long)) inside) (reached rest) (reached (with_one rest kind))).0 lowers
+        (accepted rest (with_one rest kind) melds (distance_of rest melds) (distance_of (with_one rest kind) melds) kind inside (one_more_of rest kind (less_long more thrown long) inside) (reached rest) (reached (with_one rest kind))).0 lowers
 
-    wins : IsWinning melds lacks.wanted
+    pub wins : IsWinning melds lacks.wanted
     wins = record { form = lacks.is_form; within_four = lacks.within_four }
 
     -- the discard took nothing that this multiset wants
@@ -67,25 +62,39 @@ module _ (hand : List ℕ) (melds : List Meld) (few : length melds ≤ 4) (melde
     left_over =
         ⊎_elim (λ short. absurd (let e = short.1 in omega (arith, e, lacks.lacks, (reached more).none_less lacks.wanted wins, keeps))) (λ over. over.0) (hand_falls rest more lacks.wanted thrown thrown_in lost)
 
-    same_lack : lacking more lacks.wanted ≡ distance_of more melds
+    pub same_lack : lacking more lacks.wanted ≡ distance_of more melds
     same_lack =
         ⊎_elim (λ short. absurd (let e = short.1 in omega (arith, e, lacks.lacks, (reached more).none_less lacks.wanted wins, keeps))) (λ over. (let e = over.1 in omega (arith, e, lacks.lacks, keeps))) (hand_falls rest more lacks.wanted thrown thrown_in lost)
-
-    -- so it was one of the nearest before
-    was_nearest : lacking hand lacks.wanted ≡ distance_of hand melds
-    was_nearest =
-        let bound = (reached hand).none_less lacks.wanted wins in
-        ⊎_elim (λ short. (let e = short.1 in omega (arith, e, same_lack, nearer, bound))) (λ over. absurd (let e = over.1 in omega (arith, e, same_lack, nearer, bound))) (hand_falls hand more lacks.wanted drawn drawn_in gained)
 
     pub not_thrown : kind ≢ thrown
     not_thrown same = omega (arith, lacks.lacks_kind, left_over, ap (slice_index rest) same, ap (slice_index lacks.wanted) same)
 
-    lacked_before : slice_index hand kind < slice_index lacks.wanted kind
-    lacked_before =
-        let same = lost.elsewhere kind not_thrown in
-        ⊎_elim (λ here. omega (arith, same, lacks.lacks_kind, gained.here, ap (slice_index hand) here, ap (slice_index more) here)) (λ ne. omega (arith, same, lacks.lacks_kind, gained.elsewhere kind ne)) (cases_eq kind drawn)
+-- the same once a tile that brings it nearer has come
+module _ (hand : List ℕ) (melds : List Meld) (few : length melds ≤ 4) (melded : (kind : ℕ) → kind < 34 → tiles melds kind ≤ 4) (long : length hand ≡ 34) (drawn thrown : ℕ) (drawn_in : drawn < 34) (thrown_in : thrown < 34)
+    (held : 0 < slice_index (with_one hand drawn) thrown) (nearer : distance_of (with_one hand drawn) melds < distance_of hand melds) (keeps : distance_without (with_one hand drawn) melds thrown ≡ distance_of (with_one hand drawn) melds)
+    (kind : ℕ) (inside : kind < 34) (lowers : distance_of (with_one (without_one (with_one hand drawn) thrown) kind) melds < distance_of (without_one (with_one hand drawn) thrown) melds) where
+  gained : IsOneMore drawn hand (with_one hand drawn)
+  gained = one_more_of hand drawn long drawn_in
 
-    pub lowered_before : distance_of (with_one hand kind) melds < distance_of hand melds
-    lowered_before =
-        (accepted hand (with_one hand kind) melds (distance_of hand melds) (distance_of (with_one hand kind) melds) kind inside (one_more_of hand kind long inside) (reached hand) (reached (with_one hand kind))).1
-        (record { wanted = lacks.wanted; is_form = lacks.is_form; within_four = lacks.within_four; lacks = was_nearest; lacks_kind = lacked_before })
+  abbrev wanted : WinningLacks (without_one (with_one hand drawn) thrown) melds (distance_of (without_one (with_one hand drawn) thrown) melds) kind
+  wanted = lacks (with_one hand drawn) melds few melded (more_long hand drawn long) thrown thrown_in held keeps kind inside lowers
+
+  differs : kind ≢ thrown
+  differs = not_thrown (with_one hand drawn) melds few melded (more_long hand drawn long) thrown thrown_in held keeps kind inside lowers
+
+  -- so it was one of the nearest before
+  was_nearest : lacking hand wanted.wanted ≡ distance_of hand melds
+  was_nearest =
+      let bound = (distance_reached hand melds few melded).none_less wanted.wanted (record { form = wanted.is_form; within_four = wanted.within_four }) in
+      let same = same_lack (with_one hand drawn) melds few melded (more_long hand drawn long) thrown thrown_in held keeps kind inside lowers in
+      ⊎_elim (λ short. (let e = short.1 in omega (arith, e, same, nearer, bound))) (λ over. absurd (let e = over.1 in omega (arith, e, same, nearer, bound))) (hand_falls hand (with_one hand drawn) wanted.wanted drawn drawn_in gained)
+
+  lacked_before : slice_index hand kind < slice_index wanted.wanted kind
+  lacked_before =
+      let same = (lost (with_one hand drawn) melds few melded (more_long hand drawn long) thrown thrown_in held keeps).elsewhere kind differs in
+      ⊎_elim (λ here. omega (arith, same, wanted.lacks_kind, gained.here, ap (slice_index hand) here, ap (slice_index (with_one hand drawn)) here)) (λ ne. omega (arith, same, wanted.lacks_kind, gained.elsewhere kind ne)) (cases_eq kind drawn)
+
+  pub lowered_before : distance_of (with_one hand kind) melds < distance_of hand melds
+  lowered_before =
+      (accepted hand (with_one hand kind) melds (distance_of hand melds) (distance_of (with_one hand kind) melds) kind inside (one_more_of hand kind long inside) (distance_reached hand melds few melded) (distance_reached (with_one hand kind) melds few melded)).1
+      (record { wanted = wanted.wanted; is_form = wanted.is_form; within_four = wanted.within_four; lacks = was_nearest; lacks_kind = lacked_before })

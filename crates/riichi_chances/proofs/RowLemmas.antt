@@ -1,11 +1,11 @@
 -- The rows of a hand by those of the hands that it leads to.
-use Rattle.std.proofs.Common.{◌≡◌, ℕ, ◌+◌, ◌*◌, ◌^◌, ◌<◌, ◌≤◌, Bool, true, false, max, inl, inr, List, [], ◌∷◌, ◌++◌, length, drop, get_or, refl, sym, ap, subst, ◌∙◌, ⊎_elim, arith, length-append}
+use Rattle.std.proofs.Common.{◌≡◌, ℕ, zero, suc, ◌+◌, ◌-◌, ◌*◌, ◌<◌, ◌≤◌, Bool, true, false, max, inl, inr, List, [], ◌∷◌, ◌++◌, length, drop, get_or, refl, sym, ap, subst, ◌∙◌, ⊎_elim, arith, length-append}
 use Rattle.std.proofs.lemmas.Bool.{and_parts, cases_eq, eq-eqb, leb-false, ltb-true}
 use Rattle.std.proofs.lemmas.Bool.Decides.{nat_tests}
 use Rattle.std.proofs.lemmas.List.{drop_all, get_or_append_left, get_or_default, get_or_push}
-use Rattle.std.proofs.lemmas.List.Sums.{sum_by-cons, sum_by-drop_more}
+use Rattle.std.proofs.lemmas.List.Sums.{sum_by-cons, sum_by-drop_more, sum_by_push}
 use Rattle.std.specs.List.{filter}
-use Rattle.std.specs.Prelude.{nat_le, nat_lt, slice_index, slice_index_or, sum_by}
+use Rattle.std.specs.Prelude.{nat_le, nat_lt, replicate, slice_index, slice_index_or, sum_by}
 use Rattle.riichi_hand.specs.HandParts.{ShapeParts}
 use Rattle.riichi_tiles.specs.Melds.{every_kind}
 use Rattle.riichi_tiles.proofs.Members.{IsIn, in-filter, in-filter-inv, in-map-inv, in-range, in-range-inv}
@@ -19,99 +19,125 @@ use Rattle.riichi_shape.proofs.ReadyLemmas.{ready_is}
 use Rattle.riichi_shape.proofs.RemovalLemmas.{chosen_is}
 use Rattle.riichi_deeper.proofs.DrawnLemmas.{size_with}
 use Rattle.riichi_deeper.specs.Drawn.{parts_with}
-use Rattle.riichi_chances.specs.Aims.{Aim, HasRows, draws_at, lack_of, row_of}
-use Rattle.riichi_chances.specs.Counted.{accepted_draws, accepts, counted_by, counted_rest, counted_with, parts_less}
+use Rattle.riichi_chances.specs.Aims.{Aim, HasCounts, HasRows, draws_at, lack_of, floor_of, numbers_for}
+use Rattle.riichi_chances.specs.Bests.{AreBests, BeginFew, FollowBests, FollowReady, best_value, bests_value}
+use Rattle.riichi_chances.specs.Counted.{accepts, counted_rest, counted_with, parts_less}
 use Rattle.riichi_chances.specs.Draws.{all_draws, greatest, is_there}
-use Rattle.riichi_chances.specs.Graph.{AreRows, IsGraph, IsNode, draw_value, draws_value, hand_at, no_rows, number_at, rest_by, rests_value}
+use Rattle.riichi_chances.specs.Graph.{AreRows, IsGraph, IsNode, draw_value, draws_value, placed_hand, no_rows, placed_number, rest_by, rests_value}
 use Rattle.riichi_chances.specs.Laws.{IsFourteen, IsThirteen}
-use Rattle.riichi_chances.specs.Numbers.{AreAdded, AreAllDraws, AreGreater, BeginWith, FitTogether, Follow, FollowReady, most_draws, unseen_at}
-use Rattle.riichi_chances.specs.declared.goal.Goal.{Goal}
-use Rattle.riichi_chances.specs.declared.goal.Goal.TheVariants.{Ready, Win}
+use Rattle.riichi_chances.specs.Numbers.{AreAllDraws, AreGreater, most_draws, unseen_at}
+use Rattle.riichi_chances.specs.declared.counting.Best.{Best}
 use Rattle.riichi_chances.specs.declared.graph.Draw.{Draw}
 use Rattle.riichi_chances.specs.declared.graph.Graph.{Graph}
 use Rattle.riichi_chances.specs.declared.graph.Node.{Node}
+use Rattle.riichi_chances.specs.declared.rows.Column.{Column}
+use Rattle.riichi_chances.specs.declared.rows.Column.TheVariants.{Ready, Win, ReadyAtMost, WinAtMost}
 use Rattle.riichi_chances.specs.declared.rows.Rows.{Rows}
 use Rattle.riichi_chances.specs.declared.span.Span.{Span}
 use Rattle.riichi_chances.proofs.BoundLemmas.{accepted_few, all_few, times_few}
 use Rattle.riichi_chances.proofs.BuildingLemmas.{one_nearer}
-use Rattle.riichi_chances.proofs.CountingLemmas.{far_with, followed, gains_at, gains_bound, near_counted, near_with}
+use Rattle.riichi_chances.proofs.CountingLemmas.{far_with, followed, gains_at, gains_bound, least_few, near_in, near_with}
 use Rattle.riichi_chances.proofs.GraphLemmas.{draws_same, greatest_drop, greatest_none}
 use Rattle.riichi_chances.proofs.NearestLemmas.{best_keeps, more_long}
-use Rattle.riichi_chances.proofs.SpanLemmas.{next_fits}
 use Rattle.riichi_chances.proofs.SumLemmas.{greatest_few}
 
 -- ---- the numbers of a ready hand
 
-module _ (span : Span) (live : ℕ) (turns : span.turns ≤ 18) (unseen : span.unseen ≤ 136) (few : live ≤ 136) (sums all : List ℕ) (none : (left : ℕ) → slice_index sums left ≡ 0) (are : AreAllDraws span all) where
-  wins_few : (left : ℕ) → left < span.turns → live * slice_index all left ≤ live * most_draws left
-  wins_few left low = times_few live live (slice_index all left) (most_draws left) (omega arith) (omega (arith, are left (omega (arith, low)), all_few (unseen_at span left) left (omega (arith, unseen))))
+module _ (column : Column) (span : Span) (live : ℕ) (unseen : span.unseen ≤ 136) (all : List ℕ) (are : AreAllDraws span all) (rows : Rows) (rows_are : numbers_for column rows ≡ all) where
+  abbrev wins : List Best
+  wins = (record { live = live; rows = rows }) ∷ []
 
-  pub ready_fits : FitTogether span.turns live all sums
-  ready_fits left low = next_fits left span.turns (slice_index sums left + live * slice_index all left) low turns (omega (arith, none left, wins_few left low, times_few live 136 (most_draws left) (most_draws left) few (omega arith)))
+  wins_value : (left own : ℕ) → left < span.turns → bests_value column left (floor_of column own) wins ≡ live * max (all_draws (unseen_at span left) left) (floor_of column own)
+  wins_value left own low =
+      sum_by-cons (best_value column left (floor_of column own)) (record { live = live; rows = rows }) [] ∙ none (live * max (slice_index (numbers_for column rows) left) (floor_of column own))
+      ∙ ap (λ n. live * max n (floor_of column own)) (ap (λ (ns : List ℕ). slice_index ns left) rows_are ∙ are left (omega (arith, low)))
+    where
+      none : (n : ℕ) → n + 0 ≡ n
+      none n = omega arith
 
-  module _ (after : List ℕ) (added : AreAdded span.turns live all sums after) where
-    pub ready_begin : BeginWith span live after
-    ready_begin left low = omega (arith, added left low, none left, wins_few left low)
+  pub ready_begin : BeginFew column span live wins
+  ready_begin left own low small =
+      omega (arith, wins_value left own low, times_few live live (max (all_draws (unseen_at span left) left) (floor_of column own)) (most_draws left) (omega arith) (omega (arith, all_few (unseen_at span left) left (omega (arith, unseen)), least_few column own, small)))
 
-    pub ready_follow : (row : List ℕ) → Follow span live after row → FollowReady span live row
-    ready_follow row follows left low = omega (arith, follows left low, added left low, none left, ap (λ n. live * n) (are left (omega (arith, low))))
+  pub ready_follow : (row : List ℕ) → FollowBests column span live wins row → FollowReady column span live row
+  ready_follow row follows = record {
+    none = follows.none;
+    more = λ left low. follows.more left low ∙ ap (λ n. (unseen_at span (left + 1) - live) * slice_index row left + n) (wins_value left (slice_index row left) low);
+  }
 
 -- ---- the greatest of some places
 
 pub record BestSoFar (earlier : List Rows) (places : List ℕ) (turns : ℕ) (best : Rows) (done : ℕ) : Type 0 where
-  pub at : (goal : Goal) (left : ℕ) → left < turns → max (slice_index (row_of goal best) left) (greatest (number_at goal earlier left) (drop done places)) ≡ greatest (number_at goal earlier left) places
+  pub at : (column : Column) (left : ℕ) → left < turns → max (slice_index (numbers_for column best) left) (greatest (placed_number column earlier left) (drop done places)) ≡ greatest (placed_number column earlier left) places
+
+pub zero_at : (n k : ℕ) → slice_index (replicate n 0) k ≡ 0
+zero_at zero k = refl
+zero_at (suc n) zero = refl
+zero_at (suc n) (suc k) = zero_at n k
 
 module _ (earlier : List Rows) (places : List ℕ) (turns : ℕ) where
-  pub best_init : (best : Rows) → ((goal : Goal) (left : ℕ) → slice_index (row_of goal best) left ≡ 0) → BestSoFar earlier places turns best 0
-  best_init best none = record { at = λ goal left small. none_max (slice_index (row_of goal best) left) (greatest (number_at goal earlier left) places) (none goal left) }
+  pub best_init : (best : Rows) → ((column : Column) → numbers_for column best ≡ replicate 19 0) → BestSoFar earlier places turns best 0
+  best_init best none = record { at = λ column left small. none_max (slice_index (numbers_for column best) left) (greatest (placed_number column earlier left) places) (ap (λ (ns : List ℕ). slice_index ns left) (none column) ∙ zero_at 19 left) }
     where
       none_max : (a b : ℕ) → a ≡ 0 → max a b ≡ b
       none_max a b e = omega arith
 
-  pub best_step : (best after other : Rows) (at place : ℕ) → at < length places → place ≡ get_or places at place → place < length earlier → ((goal : Goal) → AreGreater turns (row_of goal (slice_index_or earlier place other)) (row_of goal best) (row_of goal after)) → BestSoFar earlier places turns best at → BestSoFar earlier places turns after (at + 1)
+  pub best_step : (best after other : Rows) (at place : ℕ) → at < length places → place ≡ get_or places at place → place < length earlier → ((column : Column) → AreGreater turns (numbers_for column (slice_index_or earlier place other)) (numbers_for column best) (numbers_for column after)) → BestSoFar earlier places turns best at → BestSoFar earlier places turns after (at + 1)
   best_step best after other at place low place_is inside greater so_far = record {
-    at = λ goal left small.
-        up (slice_index (row_of goal after) left) (slice_index (row_of goal best) left) (slice_index (row_of goal (slice_index_or earlier place other)) left) (number_at goal earlier left place) (greatest (number_at goal earlier left) (drop at places)) (greatest (number_at goal earlier left) (drop (at + 1) places)) (greater goal left small)
-        (ap (λ (rows : Rows). slice_index (row_of goal rows) left) (get_or_default earlier place other no_rows inside)) (greatest_drop (number_at goal earlier left) places at place low place_is)
-        ∙ so_far.at goal left small;
+    at = λ column left small.
+        up (slice_index (numbers_for column after) left) (slice_index (numbers_for column best) left) (slice_index (numbers_for column (slice_index_or earlier place other)) left) (placed_number column earlier left place) (greatest (placed_number column earlier left) (drop at places)) (greatest (placed_number column earlier left) (drop (at + 1) places)) (greater column left small)
+        (ap (λ (rows : Rows). slice_index (numbers_for column rows) left) (get_or_default earlier place other no_rows inside)) (greatest_drop (placed_number column earlier left) places at place low place_is)
+        ∙ so_far.at column left small;
   }
     where
       up : (a b o n m r : ℕ) → a ≡ max b o → o ≡ n → m ≡ max n r → max a r ≡ max b m
       up a b o n m r e f g = omega arith
 
-  pub best_end : (best : Rows) (at : ℕ) → length places ≤ at → BestSoFar earlier places turns best at → (goal : Goal) (left : ℕ) → left < turns → slice_index (row_of goal best) left ≡ greatest (number_at goal earlier left) places
-  best_end best at past so_far goal left small =
-      last (slice_index (row_of goal best) left) (greatest (number_at goal earlier left) (drop at places)) (ap (greatest (number_at goal earlier left)) (drop_all at places past) ∙ greatest_none (number_at goal earlier left)) ∙ so_far.at goal left small
+  pub best_end : (best : Rows) (at : ℕ) → length places ≤ at → BestSoFar earlier places turns best at → (column : Column) (left : ℕ) → left < turns → slice_index (numbers_for column best) left ≡ greatest (placed_number column earlier left) places
+  best_end best at past so_far column left small =
+      last (slice_index (numbers_for column best) left) (greatest (placed_number column earlier left) (drop at places)) (ap (greatest (placed_number column earlier left)) (drop_all at places past) ∙ greatest_none (placed_number column earlier left)) ∙ so_far.at column left small
     where
       last : (a r : ℕ) → r ≡ 0 → a ≡ max a r
       last a r e = omega arith
 
--- ---- the sums over some draws
+-- ---- what each draw leads to at best
 
-pub record SumsSoFar (earlier : List Rows) (draws : List Draw) (turns : ℕ) (sums : Rows) (done : ℕ) : Type 0 where
-  pub at : (goal : Goal) (left : ℕ) → left < turns → slice_index (row_of goal sums) left + draws_value (number_at goal earlier left) (drop done draws) ≡ draws_value (number_at goal earlier left) draws
+pub record BestsSoFar (earlier : List Rows) (draws : List Draw) (turns : ℕ) (bests : List Best) (done : ℕ) : Type 0 where
+  pub at : (column : Column) (left least : ℕ) → left < turns → bests_value column left least bests + draws_value (placed_number column earlier left) least (drop done draws) ≡ draws_value (placed_number column earlier left) least draws
 
 module _ (earlier : List Rows) (draws : List Draw) (turns : ℕ) where
-  pub sums_init : (sums : Rows) → ((goal : Goal) (left : ℕ) → slice_index (row_of goal sums) left ≡ 0) → SumsSoFar earlier draws turns sums 0
-  sums_init sums none = record { at = λ goal left low. omega (arith, none goal left) }
+  pub bests_init : (bests : List Best) → bests ≡ [] → BestsSoFar earlier draws turns bests 0
+  bests_init bests none = record { at = λ column left least low. omega (arith, ap (bests_value column left least) none) }
 
-  module _ (sums best : Rows) (at : ℕ) (low : at < length draws) (draw : Draw) (draw_is : draw ≡ get_or draws at draw) (best_is : (goal : Goal) (left : ℕ) → left < turns → slice_index (row_of goal best) left ≡ greatest (number_at goal earlier left) draw.rests.items) (so_far : SumsSoFar earlier draws turns sums at) where
-    own : (goal : Goal) (left : ℕ) → left < turns → draws_value (number_at goal earlier left) (drop at draws) ≡ draw.live * slice_index (row_of goal best) left + draws_value (number_at goal earlier left) (drop (at + 1) draws)
-    own goal left small =
-        sum_by-drop_more (draw_value (number_at goal earlier left)) draws at draw low ∙ ap (λ (d : Draw). draw_value (number_at goal earlier left) d + draws_value (number_at goal earlier left) (drop (at + 1) draws)) (sym draw_is)
-        ∙ ap (λ n. draw.live * n + draws_value (number_at goal earlier left) (drop (at + 1) draws)) (sym (best_is goal left small))
+  pub bests_step : (bests after : List Best) (at : ℕ) → at < length draws → (draw : Draw) → draw ≡ get_or draws at draw → (rows : Rows) → ((column : Column) (left : ℕ) → left < turns → slice_index (numbers_for column rows) left ≡ greatest (placed_number column earlier left) draw.rests.items)
+      → after ≡ bests ++ (record { live = draw.live; rows = rows }) ∷ [] → BestsSoFar earlier draws turns bests at → BestsSoFar earlier draws turns after (at + 1)
+  bests_step bests after at low draw draw_is rows rows_are after_is so_far = record {
+    at = λ column left least small.
+        omega (
+          arith,
+          ap (bests_value column left least) after_is,
+          sum_by_push (best_value column left least) bests (record { live = draw.live; rows = rows }),
+          ap (λ n. draw.live * max n least) (rows_are column left small),
+          sum_by-drop_more (draw_value (placed_number column earlier left) least) draws at draw low,
+          ap (λ (d : Draw). draw_value (placed_number column earlier left) least d) draw_is,
+          so_far.at column left least small,
+        );
+  }
 
-    pub sums_fit : ((goal : Goal) (left : ℕ) → left < turns → draws_value (number_at goal earlier left) draws < 2 ^ 128) → (goal : Goal) → FitTogether turns draw.live (row_of goal best) (row_of goal sums)
-    sums_fit fits goal left small = omega (arith, own goal left small, so_far.at goal left small, fits goal left small)
-
-    pub sums_step : (after : Rows) → ((goal : Goal) → AreAdded turns draw.live (row_of goal best) (row_of goal sums) (row_of goal after)) → SumsSoFar earlier draws turns after (at + 1)
-    sums_step after added = record { at = λ goal left small. omega (arith, added goal left small, own goal left small, so_far.at goal left small) }
-
-  pub sums_end : (sums : Rows) (at : ℕ) → length draws ≤ at → SumsSoFar earlier draws turns sums at → (goal : Goal) (left : ℕ) → left < turns → slice_index (row_of goal sums) left ≡ draws_value (number_at goal earlier left) draws
-  sums_end sums at past so_far goal left small = omega (arith, so_far.at goal left small, ap (draws_value (number_at goal earlier left)) (drop_all at draws past), nothing (number_at goal earlier left))
+  pub bests_end : (bests : List Best) (at : ℕ) → length draws ≤ at → BestsSoFar earlier draws turns bests at → AreBests turns earlier draws bests
+  bests_end bests at past so_far column left least small = omega (arith, so_far.at column left least small, ap (draws_value (placed_number column earlier left) least) (drop_all at draws past), nothing (placed_number column earlier left))
     where
-      nothing : (f : ℕ → ℕ) → draws_value f [] ≡ 0
+      nothing : (f : ℕ → ℕ) → draws_value f least [] ≡ 0
       nothing f = refl
+
+-- ---- the sum of some numbers
+
+module _ (column : Column) (left least : ℕ) (bests : List Best) where
+  pub sum_next : (at : ℕ) (best : Best) → at < length bests → best ≡ get_or bests at best → bests_value column left least (drop at bests) ≡ best_value column left least best + bests_value column left least (drop (at + 1) bests)
+  sum_next at best low best_is = sum_by-drop_more (best_value column left least) bests at best low ∙ ap (λ (b : Best). best_value column left least b + bests_value column left least (drop (at + 1) bests)) (sym best_is)
+
+  pub sum_last : (at : ℕ) → length bests ≤ at → bests_value column left least (drop at bests) ≡ 0
+  sum_last at past = ap (bests_value column left least) (drop_all at bests past)
 
 -- ---- what a hand accepts
 
@@ -143,7 +169,7 @@ accepted_in parts pair there =
 
 -- ---- fourteen tiles that aren't complete: some discard is best, and it leaves as near
 
-greatest_some : (f : ℕ → ℕ) (kinds : List ℕ) (kind : ℕ) → IsIn kind kinds → f kind ≤ greatest f kinds
+pub greatest_some : (f : ℕ → ℕ) (kinds : List ℕ) (kind : ℕ) → IsIn kind kinds → f kind ≤ greatest f kinds
 unfolding greatest
 greatest_some f [] kind there = absurd there
 greatest_some f (k ∷ ks) kind (inl e) = omega (arith, ap f e)
@@ -168,13 +194,13 @@ module _ (drawn : ShapeParts) (is : IsFourteen drawn) (far : 0 < distance_of dra
       best_keeps drawn.tiles drawn.melds is.each_kind is.fourteen is.melded kind (omega (arith, (in-range-inv 34 0 kind chosen.0).1)) chosen.1 far
 
   module _ (aim : Aim) (left : ℕ) where
-    all_rest : is_there (lack_of aim.goal) drawn ≡ true → counted_rest (draws_at aim left) drawn ≡ all_draws (unseen_at aim.span left) left
+    all_rest : is_there (lack_of aim.column) drawn ≡ true → counted_rest (draws_at aim left) drawn ≡ all_draws (unseen_at aim.span left) left
     unfolding counted_rest
     all_rest near = greatest_all (λ kind. draws_at aim left (parts_less drawn kind)) (all_draws (unseen_at aim.span left) left) kinds some_best.0 some_best.1
-        (λ kind there. near_counted (lack_of aim.goal) (parts_less drawn kind) (unseen_at aim.span left) left (ap (λ d. nat_le d (lack_of aim.goal)) (as_near kind there) ∙ near))
+        (λ kind there. near_in aim.column (parts_less drawn kind) (unseen_at aim.span left) left (ap (λ d. nat_le d (lack_of aim.column)) (as_near kind there) ∙ near))
 
-    pub by_rest : counted_with (lack_of aim.goal) (unseen_at aim.span left) left (draws_at aim left) drawn ≡ counted_rest (draws_at aim left) drawn
-    by_rest = by_test (is_there (lack_of aim.goal) drawn) (λ near. near_with (lack_of aim.goal) (unseen_at aim.span left) left (draws_at aim left) drawn near ∙ sym (all_rest near)) (λ not. far_with (lack_of aim.goal) (unseen_at aim.span left) left (draws_at aim left) drawn not)
+    pub by_rest : counted_with (lack_of aim.column) (unseen_at aim.span left) left (draws_at aim left) drawn ≡ counted_rest (draws_at aim left) drawn
+    by_rest = by_test (is_there (lack_of aim.column) drawn) (λ near. near_with (lack_of aim.column) (unseen_at aim.span left) left (draws_at aim left) drawn near ∙ sym (all_rest near)) (λ not. far_with (lack_of aim.column) (unseen_at aim.span left) left (draws_at aim left) drawn not)
       where
         by_test : {a b : ℕ} (t : Bool) → (t ≡ true → a ≡ b) → (t ≡ false → a ≡ b) → a ≡ b
         by_test true here there = here refl
@@ -188,7 +214,7 @@ few_melds parts is = omega (arith, is.thirteen)
 some_lack : (parts : ShapeParts) → IsThirteen parts → 0 < distance_of parts.tiles parts.melds
 some_lack parts is = (ready_is parts.tiles parts.melds (distance_of parts.tiles parts.melds) is.each_kind is.thirteen (distance_reached parts.tiles parts.melds (few_melds parts is) is.melded)).0
 
-not_won : (d : ℕ) → 0 < d → nat_le d 0 ≡ false
+pub not_won : (d : ℕ) → 0 < d → nat_le d 0 ≡ false
 not_won d some = grind (arith, nat_tests)
 
 won : (d : ℕ) → d ≡ 0 → nat_le d 0 ≡ true
@@ -200,86 +226,87 @@ is_ready_told d e = grind (arith, nat_tests)
 not_near : (d lack : ℕ) → 1 < d → lack ≤ 1 → nat_le d lack ≡ false
 not_near d lack more few = grind (arith, nat_tests)
 
-lack_few : (goal : Goal) → lack_of goal ≤ 1
+lack_few : (column : Column) → lack_of column ≤ 1
 lack_few Ready = omega arith
 lack_few Win = omega arith
+lack_few ReadyAtMost = omega arith
+lack_few WinAtMost = omega arith
 
 -- a hand that isn't ready: each draw that it accepts leads to what a best discard leaves
-pub rests_gains : (aim : Aim) (parts : ShapeParts) (left : ℕ) → IsThirteen parts → 1 < distance_of parts.tiles parts.melds → rests_value (draws_at aim left) parts ≡ gains_at aim parts left
-unfolding accepted_draws
-rests_gains aim parts left is far =
-    sum_same (rest_by (draws_at aim left) parts) (counted_by (lack_of aim.goal) (unseen_at aim.span left) left (draws_at aim left) parts) (accepts parts) (λ pair there. ap (λ n. pair.1 * n) (sym (each pair there)))
+pub rests_gains : (aim : Aim) (parts : ShapeParts) (left own : ℕ) → IsThirteen parts → 1 < distance_of parts.tiles parts.melds → rests_value (draws_at aim left) (floor_of aim.column own) parts ≡ gains_at aim parts left own
+rests_gains aim parts left own is far =
+    sum_same (rest_by (draws_at aim left) (floor_of aim.column own) parts) (λ (pair : ℕ × ℕ). pair.1 * max (counted_with (lack_of aim.column) (unseen_at aim.span left) left (draws_at aim left) (parts_with parts pair.0)) (floor_of aim.column own)) (accepts parts) (λ pair there. ap (λ n. pair.1 * max n (floor_of aim.column own)) (sym (each pair there)))
   where
-    each : (pair : ℕ × ℕ) → IsIn pair (accepts parts) → counted_with (lack_of aim.goal) (unseen_at aim.span left) left (draws_at aim left) (parts_with parts pair.0) ≡ counted_rest (draws_at aim left) (parts_with parts pair.0)
+    each : (pair : ℕ × ℕ) → IsIn pair (accepts parts) → counted_with (lack_of aim.column) (unseen_at aim.span left) left (draws_at aim left) (parts_with parts pair.0) ≡ counted_rest (draws_at aim left) (parts_with parts pair.0)
     each pair there =
         let inside = (accepted_in parts pair there).0 in
         by_rest (parts_with parts pair.0) (record { each_kind = more_long parts.tiles pair.0 is.each_kind; each_seen = is.each_seen; fourteen = omega (arith, size_with parts.tiles parts.melds pair.0 (omega (arith, is.each_kind, inside)), is.thirteen); melded = is.melded })
         (omega (arith, far, one_nearer parts.tiles parts.melds (few_melds parts is) is.melded is.each_kind pair.0 inside)) aim left
 
 -- a ready hand wins by each
-ready_gains : (span : Span) (parts : ShapeParts) (left : ℕ) → IsThirteen parts → nat_le (distance_of parts.tiles parts.melds) 1 ≡ true → live_in (accepts parts) * all_draws (unseen_at span left) left ≡ gains_at (record { goal = Win; span = span }) parts left
-unfolding accepted_draws
-ready_gains span parts left is ready =
-    let aim : Aim = record { goal = Win; span = span } in
-    sym (sum_times (all_draws (unseen_at span left) left) (accepts parts))
-    ∙ sum_same (λ (pair : ℕ × ℕ). pair.1 * all_draws (unseen_at span left) left) (counted_by 0 (unseen_at span left) left (draws_at aim left) parts) (accepts parts) (λ pair there. ap (λ n. pair.1 * n) (sym (near_with 0 (unseen_at span left) left (draws_at aim left) (parts_with parts pair.0) (won_by pair there))))
+ready_gains : (aim : Aim) (parts : ShapeParts) (left own : ℕ) → lack_of aim.column ≡ 0 → IsThirteen parts → nat_le (distance_of parts.tiles parts.melds) 1 ≡ true → live_in (accepts parts) * max (all_draws (unseen_at aim.span left) left) (floor_of aim.column own) ≡ gains_at aim parts left own
+ready_gains aim parts left own none is ready =
+    sym (sum_times (max (all_draws (unseen_at aim.span left) left) (floor_of aim.column own)) (accepts parts))
+    ∙ sum_same (λ (pair : ℕ × ℕ). pair.1 * max (all_draws (unseen_at aim.span left) left) (floor_of aim.column own)) (λ (pair : ℕ × ℕ). pair.1 * max (counted_with (lack_of aim.column) (unseen_at aim.span left) left (draws_at aim left) (parts_with parts pair.0)) (floor_of aim.column own)) (accepts parts)
+    (λ pair there. ap (λ n. pair.1 * max n (floor_of aim.column own)) (sym (near_with (lack_of aim.column) (unseen_at aim.span left) left (draws_at aim left) (parts_with parts pair.0) (won_by pair there))))
   where
-    won_by : (pair : ℕ × ℕ) → IsIn pair (accepts parts) → is_there 0 (parts_with parts pair.0) ≡ true
-    won_by pair there = won (distance_of (with_one parts.tiles pair.0) parts.melds) (omega (arith, (accepted_in parts pair there).1, is_ready_told (distance_of parts.tiles parts.melds) ready))
+    won_by : (pair : ℕ × ℕ) → IsIn pair (accepts parts) → is_there (lack_of aim.column) (parts_with parts pair.0) ≡ true
+    won_by pair there = ap (nat_le (distance_of (with_one parts.tiles pair.0) parts.melds)) none ∙ won (distance_of (with_one parts.tiles pair.0) parts.melds) (omega (arith, (accepted_in parts pair there).1, is_ready_told (distance_of parts.tiles parts.melds) ready))
 
-pub ready_has : (span : Span) (parts : ShapeParts) (live : ℕ) (rows : Rows) → IsThirteen parts → nat_le (distance_of parts.tiles parts.melds) 1 ≡ true → live ≡ live_in (accepts parts) → AreAllDraws span rows.ready → slice_index rows.win 0 ≡ 0 → FollowReady span live rows.win → HasRows span parts rows
-ready_has span parts live rows is ready live_is all none follows Ready left low = all left low ∙ sym (near_counted 1 parts (unseen_at span left) left ready)
-ready_has span parts live rows is ready live_is all none follows Win left low =
-    followed (record { goal = Win; span = span }) parts (not_won (distance_of parts.tiles parts.melds) (some_lack parts is)) live live_is (λ l. live * all_draws (unseen_at span l) l) rows.win
-    (λ l small. ap (λ n. n * all_draws (unseen_at span l) l) live_is ∙ ready_gains span parts l is ready) none follows left low
+module _ (span : Span) (parts : ShapeParts) (live : ℕ) (is : IsThirteen parts) (ready : nat_le (distance_of parts.tiles parts.melds) 1 ≡ true) (live_is : live ≡ live_in (accepts parts)) where
+  wins_by : (column : Column) → lack_of column ≡ 0 → (row : List ℕ) → FollowReady column span live row → HasCounts (record { column = column; span = span }) parts row
+  wins_by column none row follows =
+      followed (record { column = column; span = span }) parts (ap (nat_le (distance_of parts.tiles parts.melds)) none ∙ not_won (distance_of parts.tiles parts.melds) (some_lack parts is)) live live_is (λ l own. live * max (all_draws (unseen_at span l) l) (floor_of column own)) row
+      (λ l own small. ap (λ n. n * max (all_draws (unseen_at span l) l) (floor_of column own)) live_is ∙ ready_gains (record { column = column; span = span }) parts l own none is ready) follows
+
+  pub ready_has : (rows : Rows) → AreAllDraws span rows.ready → AreAllDraws span rows.ready_at_most → FollowReady Win span live rows.win → FollowReady WinAtMost span live rows.win_at_most → HasRows span parts rows
+  ready_has rows all most wins most_wins Ready left low = all left low ∙ sym (near_in Ready parts (unseen_at span left) left ready)
+  ready_has rows all most wins most_wins ReadyAtMost left low = most left low ∙ sym (near_in ReadyAtMost parts (unseen_at span left) left ready)
+  ready_has rows all most wins most_wins Win left low = wins_by Win refl rows.win wins left low
+  ready_has rows all most wins most_wins WinAtMost left low = wins_by WinAtMost refl rows.win_at_most most_wins left low
 
 -- ---- the rows of a place
 
-module _ (span : Span) (turns : span.turns ≤ 18) (unseen : span.unseen ≤ 136) (root : ShapeParts) (hands : List (List ℕ)) (place : ℕ) (node : Node) (is : IsNode hands place (hand_at root hands place) node) (earlier : List Rows) (all_before : length earlier ≡ place) (are : AreRows span root hands earlier) (not_ready : node.is_ready ≡ false) where
+module _ (span : Span) (turns : span.turns ≤ 18) (unseen : span.unseen ≤ 136) (root : ShapeParts) (hands : List (List ℕ)) (place : ℕ) (node : Node) (is : IsNode hands place (placed_hand root hands place) node) (earlier : List Rows) (all_before : length earlier ≡ place) (are : AreRows span root hands earlier) (not_ready : node.is_ready ≡ false) where
   abbrev parts : ShapeParts
-  parts = hand_at root hands place
+  parts = placed_hand root hands place
 
-  abbrev aim_of : Goal → Aim
-  aim_of goal = record { goal = goal; span = span }
+  abbrev aim_of : Column → Aim
+  aim_of column = record { column = column; span = span }
 
   far_away : 1 < distance_of parts.tiles parts.melds
   far_away = omega (arith, leb-false (distance_of parts.tiles parts.melds) 1 (sym is.ready ∙ not_ready))
 
-  pub gains_told : (goal : Goal) (left : ℕ) → left < span.turns → draws_value (number_at goal earlier left) node.draws.items ≡ gains_at (aim_of goal) parts left
-  gains_told goal left low =
-      draws_same (number_at goal earlier left) (λ p. draws_at (aim_of goal) left (hand_at parts hands p)) place node.draws.items is.before (λ p small. are p (omega (arith, small, all_before)) goal left (omega (arith, low)))
-      ∙ is.leads not_ready (draws_at (aim_of goal) left) ∙ rests_gains (aim_of goal) parts left is.whole far_away
+  module _ (bests : List Best) (bests_are : AreBests span.turns earlier node.draws.items bests) where
+    gains_told : (column : Column) (left own : ℕ) → left < span.turns → bests_value column left (floor_of column own) bests ≡ gains_at (aim_of column) parts left own
+    gains_told column left own low =
+        bests_are column left (floor_of column own) low
+        ∙ draws_same (placed_number column earlier left) (λ p. draws_at (aim_of column) left (placed_hand parts hands p)) (floor_of column own) place node.draws.items is.before (λ p small. are p (omega (arith, small, all_before)) column left (omega (arith, low)))
+        ∙ is.leads not_ready (draws_at (aim_of column) left) (floor_of column own) ∙ rests_gains (aim_of column) parts left own is.whole far_away
 
-  pub gains_few : (goal : Goal) (left : ℕ) → left < span.turns → draws_value (number_at goal earlier left) node.draws.items ≤ node.live * most_draws left
-  gains_few goal left low = omega (arith, gains_told goal left low, gains_bound (aim_of goal) parts node.live unseen (omega (arith, is.live)) left)
+    pub begin_few : (column : Column) → BeginFew column span node.live bests
+    begin_few column left own low small = omega (arith, gains_told column left own low, gains_bound (aim_of column) parts node.live unseen (omega (arith, is.live)) left own small)
 
-  pub gains_fit : node.live ≤ 136 → (goal : Goal) (left : ℕ) → left < span.turns → draws_value (number_at goal earlier left) node.draws.items < 2 ^ 128
-  gains_fit few goal left low = next_fits left span.turns (draws_value (number_at goal earlier left) node.draws.items) low turns (omega (arith, gains_few goal left low, times_few node.live 136 (most_draws left) (most_draws left) few (omega arith)))
+    pub followed_rows : (rows : Rows) → ((column : Column) → FollowBests column span node.live bests (numbers_for column rows)) → HasRows span parts rows
+    followed_rows rows follows column =
+        followed (aim_of column) parts (not_near (distance_of parts.tiles parts.melds) (lack_of column) far_away (lack_few column)) node.live is.live (λ left own. bests_value column left (floor_of column own) bests) (numbers_for column rows) (gains_told column) (follows column)
 
-  pub followed_row : (goal : Goal) (begun row : List ℕ) → ((left : ℕ) → left < span.turns → slice_index begun left ≡ draws_value (number_at goal earlier left) node.draws.items) → slice_index row 0 ≡ 0 → Follow span node.live begun row → (left : ℕ) → left ≤ span.turns → slice_index row left ≡ draws_at (aim_of goal) left parts
-  followed_row goal begun row begun_is none follows =
-      followed (aim_of goal) parts (not_near (distance_of parts.tiles parts.melds) (lack_of goal) far_away (lack_few goal)) node.live is.live (slice_index begun) row (λ l small. begun_is l small ∙ gains_told goal l small) none follows
-
-  pub followed_rows : (begun rows : Rows) → ((goal : Goal) (left : ℕ) → left < span.turns → slice_index (row_of goal begun) left ≡ draws_value (number_at goal earlier left) node.draws.items) → slice_index rows.ready 0 ≡ 0 → slice_index rows.win 0 ≡ 0 → Follow span node.live begun.ready rows.ready → Follow span node.live begun.win rows.win → HasRows span parts rows
-  followed_rows begun rows begun_is none no_win follows wins Ready = followed_row Ready begun.ready rows.ready (begun_is Ready) none follows
-  followed_rows begun rows begun_is none no_win follows wins Win = followed_row Win begun.win rows.win (begun_is Win) no_win wins
-
-pub node_at : (root : ShapeParts) (graph : Graph) (place : ℕ) (node : Node) → IsGraph root graph → place < length graph.nodes.items → node ≡ slice_index_or graph.nodes.items place node → IsNode graph.hands.keys place (hand_at root graph.hands.keys place) node
-node_at root graph place node is inside node_is = subst (λ (it : Node). IsNode graph.hands.keys place (hand_at root graph.hands.keys place) it) (sym node_is) (is.node place node inside)
+pub node_at : (root : ShapeParts) (graph : Graph) (place : ℕ) (node : Node) → IsGraph root graph → place < length graph.nodes.items → node ≡ slice_index_or graph.nodes.items place node → IsNode graph.hands.keys place (placed_hand root graph.hands.keys place) node
+node_at root graph place node is inside node_is = subst (λ (it : Node). IsNode graph.hands.keys place (placed_hand root graph.hands.keys place) it) (sym node_is) (is.node place node inside)
 
 pub live_few : (hands : List (List ℕ)) (place : ℕ) (parts : ShapeParts) (node : Node) → IsNode hands place parts node → node.live ≤ 136
 live_few hands place parts node is = omega (arith, is.live, accepted_few parts)
 
 -- ---- one more place
 
-pub rows_more : (span : Span) (root : ShapeParts) (hands : List (List ℕ)) (rows after : List Rows) (place : ℕ) (row : Rows) → AreRows span root hands rows → length rows ≡ place → HasRows span (hand_at root hands place) row → after ≡ rows ++ row ∷ [] → AreRows span root hands after
+pub rows_more : (span : Span) (root : ShapeParts) (hands : List (List ℕ)) (rows after : List Rows) (place : ℕ) (row : Rows) → AreRows span root hands rows → length rows ≡ place → HasRows span (placed_hand root hands place) row → after ≡ rows ++ row ∷ [] → AreRows span root hands after
 rows_more span root hands rows after place row are long has after_is = subst (AreRows span root hands) (sym after_is) each
   where
     each : AreRows span root hands (rows ++ row ∷ [])
     each p low = ⊎_elim here (λ ne. other (omega (arith, low, ne, long, length-append rows (row ∷ [])))) (cases_eq p place)
       where
-        other : p < length rows → HasRows span (hand_at root hands p) (slice_index_or (rows ++ row ∷ []) p no_rows)
-        other less = subst (HasRows span (hand_at root hands p)) (sym (get_or_append_left rows (row ∷ []) no_rows p less)) (are p less)
+        other : p < length rows → HasRows span (placed_hand root hands p) (slice_index_or (rows ++ row ∷ []) p no_rows)
+        other less = subst (HasRows span (placed_hand root hands p)) (sym (get_or_append_left rows (row ∷ []) no_rows p less)) (are p less)
 
-        here : p ≡ place → HasRows span (hand_at root hands p) (slice_index_or (rows ++ row ∷ []) p no_rows)
-        here e = subst (λ (it : Rows). HasRows span (hand_at root hands p) it) (sym (get_or_push rows row no_rows p (long ∙ sym e))) (subst (λ (q : ℕ). HasRows span (hand_at root hands q) row) (sym e) has)
+        here : p ≡ place → HasRows span (placed_hand root hands p) (slice_index_or (rows ++ row ∷ []) p no_rows)
+        here e = subst (λ (it : Rows). HasRows span (placed_hand root hands p) it) (sym (get_or_push rows row no_rows p (long ∙ sym e))) (subst (λ (q : ℕ). HasRows span (placed_hand root hands q) row) (sym e) has)

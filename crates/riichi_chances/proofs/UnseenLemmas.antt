@@ -1,7 +1,7 @@
 -- How many tiles are unseen, kind by kind.
 use Rattle.std.proofs.Common.{◌≡◌, ℕ, suc, ◌+◌, ◌-◌, ◌<◌, List, length, true, refl, ap, arith}
 use Rattle.std.specs.Prelude.{slice_index}
-use Rattle.riichi_hand.specs.Hand.{IsShape, is_thirteen}
+use Rattle.riichi_hand.specs.Hand.{IsShape, is_thirteen, size}
 use Rattle.riichi_hand.specs.HandParts.{ShapeParts}
 use Rattle.riichi_tiles.specs.Melds.{tiles}
 use Rattle.riichi_tiles.specs.declared.meld.Meld.{Meld}
@@ -10,7 +10,7 @@ use Rattle.riichi_shape.specs.Accepted.{live_of}
 use Rattle.riichi_shape.proofs.ShapeFacts.{melds_few}
 use Rattle.riichi_deeper.proofs.DrawnLemmas.{thirteen_is}
 use Rattle.riichi_chances.specs.Draws.{unseen_of}
-use Rattle.riichi_chances.specs.Laws.{IsThirteen}
+use Rattle.riichi_chances.specs.Laws.{IsFourteen, IsThirteen}
 
 abbrev pub copies_of : ShapeParts → ℕ → ℕ
 copies_of parts = live_of parts.tiles parts.melds parts.seen
@@ -46,6 +46,9 @@ is_whole parts is long seen_long thirteen = record { each_kind = long; each_seen
 
 pub copies_told : (parts : ShapeParts) (held elsewhere : List ℕ) (melds : List Meld) (kind melded : ℕ) → held ≡ parts.tiles → melds ≡ parts.melds → elsewhere ≡ parts.seen → melded ≡ tiles melds kind → 4 - (slice_index held kind + melded + slice_index elsewhere kind) ≡ copies_of parts kind
 copies_told parts held elsewhere melds kind melded e f g m = omega (arith, ap (λ (counts : List ℕ). slice_index counts kind) e, ap (λ (counts : List ℕ). slice_index counts kind) g, m, ap (λ (ms : List Meld). tiles ms kind) f)
+
+pub is_whole_drawn : (parts : ShapeParts) → IsShape parts → length parts.tiles ≡ 34 → length parts.seen ≡ 34 → size parts.tiles parts.melds ≡ 14 → IsFourteen parts
+is_whole_drawn parts is long seen_long fourteen = record { each_kind = long; each_seen = seen_long; fourteen = fourteen; melded = melds_few parts is }
 
 -- with all turns to come
 pub all_turns : (unseen turns n : ℕ) → unseen ≡ n → unseen - (turns - turns) ≡ n

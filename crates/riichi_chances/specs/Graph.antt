@@ -1,38 +1,40 @@
 -- The hands that a hand may come to, each once, and what each leads to.
-use Rattle.std.specs.Prelude.{◌≡◌, ℕ, ◌*◌, ◌<◌, ◌≤◌, false, nat_le, List, [], length, slice_index, slice_index_or, sum_by}
+use Rattle.std.specs.Prelude.{◌≡◌, ℕ, ◌*◌, ◌<◌, ◌≤◌, false, max, nat_le, List, [], length, map, slice_index, slice_index_or, sum_by}
 use Rattle.riichi_hand.specs.HandParts.{ShapeParts}
+use Rattle.riichi_shape.specs.Accepted.{without_one}
 use Rattle.riichi_shape.specs.EveryWinning.{distance_of}
 use Rattle.riichi_shape.specs.LiveCopies.{live_in}
+use Rattle.riichi_shape.specs.declared.discard.Discard.{Discard}
 use Rattle.riichi_deeper.specs.Drawn.{parts_with}
-use Rattle.riichi_chances.specs.Aims.{HasRows, row_of}
+use Rattle.riichi_chances.specs.Aims.{HasRows, numbers_for}
 use Rattle.riichi_chances.specs.Counted.{accepts, counted_rest}
 use Rattle.riichi_chances.specs.Draws.{greatest}
 use Rattle.riichi_chances.specs.Laws.{IsThirteen}
-use Rattle.riichi_chances.specs.declared.goal.Goal.{Goal}
 use Rattle.riichi_chances.specs.declared.graph.Draw.{Draw}
 use Rattle.riichi_chances.specs.declared.graph.Graph.{Graph}
 use Rattle.riichi_chances.specs.declared.graph.Node.{Node}
+use Rattle.riichi_chances.specs.declared.rows.Column.{Column}
 use Rattle.riichi_chances.specs.declared.rows.Rows.{Rows}
 use Rattle.riichi_chances.specs.declared.span.Span.{Span}
 
 -- the hand at a place, with the melds of a first one and what that sees
-abbrev pub hand_at : ShapeParts → List (List ℕ) → ℕ → ShapeParts
-hand_at root hands place = record { tiles = slice_index_or hands place []; melds = root.melds; seen = root.seen }
+abbrev pub placed_hand : ShapeParts → List (List ℕ) → ℕ → ShapeParts
+placed_hand root hands place = record { tiles = slice_index_or hands place []; melds = root.melds; seen = root.seen }
 
--- the live copies of a draw times the greatest value of a place that it leads to
-abbrev pub draw_value : (ℕ → ℕ) → Draw → ℕ
-draw_value value draw = draw.live * greatest value draw.rests.items
+-- the live copies of a draw times the greatest value of a place that it leads to, or times a least one
+abbrev pub draw_value : (ℕ → ℕ) → ℕ → Draw → ℕ
+draw_value value least draw = draw.live * max (greatest value draw.rests.items) least
 
 -- the sum over some draws
-abbrev pub draws_value : (ℕ → ℕ) → List Draw → ℕ
-draws_value value draws = sum_by (draw_value value) draws
+abbrev pub draws_value : (ℕ → ℕ) → ℕ → List Draw → ℕ
+draws_value value least draws = sum_by (draw_value value least) draws
 
 -- over the kinds that thirteen tiles accept, the live copies times the greatest value of a hand that a best discard then leaves
-abbrev pub rest_by : (ShapeParts → ℕ) → ShapeParts → ℕ × ℕ → ℕ
-rest_by value parts accepted = accepted.1 * counted_rest value (parts_with parts accepted.0)
+abbrev pub rest_by : (ShapeParts → ℕ) → ℕ → ShapeParts → ℕ × ℕ → ℕ
+rest_by value least parts accepted = accepted.1 * max (counted_rest value (parts_with parts accepted.0)) least
 
-abbrev pub rests_value : (ShapeParts → ℕ) → ShapeParts → ℕ
-rests_value value parts = sum_by (rest_by value parts) (accepts parts)
+abbrev pub rests_value : (ShapeParts → ℕ) → ℕ → ShapeParts → ℕ
+rests_value value least parts = sum_by (rest_by value least parts) (accepts parts)
 
 -- all of these places are before one
 abbrev pub AreBefore : ℕ → List ℕ → Type 0
@@ -44,11 +46,19 @@ LeadBefore place draws = (at : ℕ) (draw : Draw) → at < length draws → AreB
 
 -- the draws are those that the hand accepts, whatever the value of a hand
 abbrev pub LeadTo : List (List ℕ) → List Draw → ShapeParts → Type 0
-LeadTo hands draws parts = (value : ShapeParts → ℕ) → draws_value (λ place. value (hand_at parts hands place)) draws ≡ rests_value value parts
+LeadTo hands draws parts = (value : ShapeParts → ℕ) (least : ℕ) → draws_value (λ place. value (placed_hand parts hands place)) least draws ≡ rests_value value least parts
+
+-- the kinds of some discards
+abbrev pub discard_kinds : List Discard → List ℕ
+discard_kinds discards = map (λ discard. discard.kind) discards
+
+-- at the places, one after the other, stand the hands that tiles leave once one of the kinds is thrown
+abbrev pub AreLeft : List (List ℕ) → List ℕ → List ℕ → List ℕ → Type 0
+AreLeft hands places tiles kinds = map (λ place. slice_index_or hands place []) places ≡ map (without_one tiles) kinds
 
 -- the places are those of what the best discards of fourteen tiles leave
 abbrev pub AreRests : List (List ℕ) → List ℕ → ShapeParts → Type 0
-AreRests hands places drawn = (value : ShapeParts → ℕ) → greatest (λ place. value (hand_at drawn hands place)) places ≡ counted_rest value drawn
+AreRests hands places drawn = (value : ShapeParts → ℕ) → greatest (λ place. value (placed_hand drawn hands place)) places ≡ counted_rest value drawn
 
 -- what stands at a place for the hand there
 pub record IsNode (hands : List (List ℕ)) (place : ℕ) (parts : ShapeParts) (node : Node) : Type 0 where
@@ -60,7 +70,8 @@ pub record IsNode (hands : List (List ℕ)) (place : ℕ) (parts : ShapeParts) (
 
 pub record IsGraph (root : ShapeParts) (graph : Graph) : Type 0 where
   pub each : length graph.hands.keys ≡ length graph.nodes.items
-  pub node : (place : ℕ) (node : Node) → place < length graph.nodes.items → IsNode graph.hands.keys place (hand_at root graph.hands.keys place) (slice_index_or graph.nodes.items place node)
+  pub few : length graph.nodes.items ≤ graph.most_hands
+  pub node : (place : ℕ) (node : Node) → place < length graph.nodes.items → IsNode graph.hands.keys place (placed_hand root graph.hands.keys place) (slice_index_or graph.nodes.items place node)
 
 -- hands came behind those that were there
 pub record IsMore (before after : List (List ℕ)) : Type 0 where
@@ -71,6 +82,7 @@ pub record IsMore (before after : List (List ℕ)) : Type 0 where
 pub record Grows (root : ShapeParts) (before after : Graph) : Type 0 where
   pub whole : IsGraph root after
   pub more : IsMore before.hands.keys after.hands.keys
+  pub most : after.most_hands ≡ before.most_hands
 
 -- the hand stands there
 pub record IsPlaceOf (graph : Graph) (parts : ShapeParts) (place : ℕ) : Type 0 where
@@ -80,12 +92,12 @@ pub record IsPlaceOf (graph : Graph) (parts : ShapeParts) (place : ℕ) : Type 0
 -- ---- the numbers of all hands
 
 abbrev pub no_rows : Rows
-no_rows = record { ready = []; win = [] }
+no_rows = record { ready = []; win = []; ready_at_most = []; win_at_most = [] }
 
--- the number of a place for a goal where so many turns are left
-abbrev pub number_at : Goal → List Rows → ℕ → ℕ → ℕ
-number_at goal rows left place = slice_index (row_of goal (slice_index_or rows place no_rows)) left
+-- the number of a place where so many turns are left
+abbrev pub placed_number : Column → List Rows → ℕ → ℕ → ℕ
+placed_number column rows left place = slice_index (numbers_for column (slice_index_or rows place no_rows)) left
 
 -- the rows of some places have the numbers of the hands there
 abbrev pub AreRows : Span → ShapeParts → List (List ℕ) → List Rows → Type 0
-AreRows span root hands rows = (place : ℕ) → place < length rows → HasRows span (hand_at root hands place) (slice_index_or rows place no_rows)
+AreRows span root hands rows = (place : ℕ) → place < length rows → HasRows span (placed_hand root hands place) (slice_index_or rows place no_rows)

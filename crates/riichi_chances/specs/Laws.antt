@@ -1,10 +1,12 @@
 -- What holds of the draws that bring a hand near enough.
-use Rattle.std.specs.Prelude.{◌≡◌, ℕ, ◌<◌, ◌≤◌, length}
+use Rattle.std.specs.Prelude.{◌≡◌, ℕ, ◌<◌, ◌≤◌, [], length}
 use Rattle.riichi_hand.specs.Hand.{size}
 use Rattle.riichi_hand.specs.HandParts.{ShapeParts}
 use Rattle.riichi_tiles.specs.Melds.{tiles}
+use Rattle.riichi_chances.specs.AtMost.{counted_most}
 use Rattle.riichi_chances.specs.Counted.{counted_draws}
 use Rattle.riichi_chances.specs.Draws.{all_draws, draws, unseen_of}
+use Rattle.riichi_chances.specs.Plays.{DrawPlay, draws_by}
 
 -- thirteen tiles with their melds, and a count of each kind for what is seen
 pub record IsThirteen (parts : ShapeParts) : Type 0 where
@@ -27,3 +29,11 @@ CountedLaw = (goal : ℕ) (parts : ShapeParts) (turns : ℕ) → IsThirteen part
 -- they are no more than all draws, so that the two numbers are a chance
 abbrev pub ChanceLaw : Type 0
 ChanceLaw = (goal : ℕ) (parts : ShapeParts) (turns : ℕ) → IsThirteen parts → draws goal parts turns ≤ all_draws (unseen_of parts) turns
+
+-- no play of those that keep only what brings the hand nearer brings it there in more draws than the upper end
+abbrev pub PlayLaw : Type 0
+PlayLaw = (play : DrawPlay) (goal : ℕ) (parts : ShapeParts) (turns : ℕ) → IsThirteen parts → draws_by play [] goal parts turns ≤ counted_most goal parts (unseen_of parts) turns
+
+-- nor does the play that the draws are counted by
+abbrev pub MostLaw : Type 0
+MostLaw = (goal : ℕ) (parts : ShapeParts) (turns : ℕ) → IsThirteen parts → draws goal parts turns ≤ counted_most goal parts (unseen_of parts) turns

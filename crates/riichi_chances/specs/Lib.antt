@@ -1,7 +1,11 @@
 pub mod Aims
+pub mod AtMost
+pub mod Bests
 pub mod Chances
 pub mod Counted
 pub mod Draws
 pub mod Graph
 pub mod Laws
 pub mod Numbers
+pub mod Plays
+pub mod Reachable

@@ -1,10 +1,11 @@
 //! The hands that a hand may come to, by what each accepts.
-ghost use Rattle.std.specs.Prelude.{◌≡◌, ◌<◌, ◌++◌, [], ◌∷◌, IfOk, OnOk, length};
+ghost use Rattle.std.specs.Prelude.{◌≡◌, ◌<◌, ◌++◌, [], ◌∷◌, All, IfOk, OnOk, length};
 ghost use Rattle.riichi_shape.specs.Accepted.{accepted_of};
 ghost use Rattle.riichi_shape.specs.Discards.{discards_of};
 ghost use Rattle.riichi_shape.specs.EveryWinning.{distance_of};
 ghost use Rattle.riichi_chances.specs.Graph as spec;
 ghost use Rattle.riichi_chances.specs.Laws.{IsFourteen, IsThirteen};
+ghost use Rattle.riichi_chances.specs.Reachable.{ComesToMore, HandGroup, IsWithin, MayCome, OnTooMany, RestsMayCome};
 
 use crate::fault::ChancesFault;
 use crate::goal::is_ready;
@@ -27,6 +28,11 @@ pub(crate) fn place_of<R: RowSource>(
     requires graph { spec.IsGraph asked.now graph.old }
     ensures grows { OnOk result (spec.Grows asked.now graph.old graph.new) }
     ensures place { IfOk result (spec.IsPlaceOf graph.new asked.now) }
+    ensures within { (group : HandGroup) → IsWithin group asked.now graph.old
+        → MayCome group asked.now.tiles → OnOk result (All (MayCome group) graph.new.hands.keys) }
+    ensures many { (group : HandGroup) → IsWithin group asked.now graph.old
+        → MayCome group asked.now.tiles
+        → OnTooMany result (ComesToMore graph.old.most_hands group) }
     ensures stays { source.new ≡ source.old }
 {
     if let Some(place) = graph.known(asked) {
@@ -48,6 +54,11 @@ fn node_of<R: RowSource>(
     ensures grows { OnOk result (spec.Grows asked.now graph.old graph.new) }
     ensures node { IfOk result
         (spec.IsNode graph.new.hands.keys (length graph.new.nodes.items) asked.now) }
+    ensures within { (group : HandGroup) → IsWithin group asked.now graph.old
+        → MayCome group asked.now.tiles → OnOk result (All (MayCome group) graph.new.hands.keys) }
+    ensures many { (group : HandGroup) → IsWithin group asked.now graph.old
+        → MayCome group asked.now.tiles
+        → OnTooMany result (ComesToMore graph.old.most_hands group) }
     ensures stays { source.new ≡ source.old }
 {
     let answer = shape_with(source, asked);
@@ -90,6 +101,11 @@ fn draws_of<R: RowSource>(
         (λ draws. spec.LeadBefore (length graph.new.nodes.items) draws.items) }
     ensures leads { IfOk result
         (λ draws. spec.LeadTo graph.new.hands.keys draws.items asked.now) }
+    ensures within { (group : HandGroup) → IsWithin group asked.now graph.old
+        → MayCome group asked.now.tiles → OnOk result (All (MayCome group) graph.new.hands.keys) }
+    ensures many { (group : HandGroup) → IsWithin group asked.now graph.old
+        → MayCome group asked.now.tiles
+        → OnTooMany result (ComesToMore graph.old.most_hands group) }
     ensures stays { source.new ≡ source.old }
 {
     let mut draws = Vec::new(graph.alloc);
@@ -120,6 +136,10 @@ fn rests_of<R: RowSource>(
         (λ rests. spec.AreBefore (length graph.new.nodes.items) rests.items) }
     ensures rests { IfOk result
         (λ rests. spec.AreRests graph.new.hands.keys rests.items drawn.now) }
+    ensures within { (group : HandGroup) → IsWithin group drawn.now graph.old
+        → RestsMayCome group drawn.now → OnOk result (All (MayCome group) graph.new.hands.keys) }
+    ensures many { (group : HandGroup) → IsWithin group drawn.now graph.old
+        → RestsMayCome group drawn.now → OnTooMany result (ComesToMore graph.old.most_hands group) }
     ensures stays { source.new ≡ source.old }
 {
     let answer = shape_with(source, drawn);
@@ -129,9 +149,9 @@ fn rests_of<R: RowSource>(
     }
 }
 
-/// The places of what these discards leave.
+/// The places of what these discards leave, one for each of them.
 #[cycle(building)]
-fn places_of<R: RowSource>(
+pub(crate) fn places_of<R: RowSource>(
     source: &mut R,
     graph: &mut Graph,
     drawn: &ShapeRecord,
@@ -145,8 +165,12 @@ fn places_of<R: RowSource>(
     ensures grows { OnOk result (spec.Grows drawn.now graph.old graph.new) }
     ensures before { IfOk result
         (λ rests. spec.AreBefore (length graph.new.nodes.items) rests.items) }
-    ensures rests { IfOk result
-        (λ rests. spec.AreRests graph.new.hands.keys rests.items drawn.now) }
+    ensures left { IfOk result (λ rests. spec.AreLeft
+        graph.new.hands.keys rests.items drawn.now.tiles (spec.discard_kinds discards.now)) }
+    ensures within { (group : HandGroup) → IsWithin group drawn.now graph.old
+        → RestsMayCome group drawn.now → OnOk result (All (MayCome group) graph.new.hands.keys) }
+    ensures many { (group : HandGroup) → IsWithin group drawn.now graph.old
+        → RestsMayCome group drawn.now → OnTooMany result (ComesToMore graph.old.most_hands group) }
     ensures stays { source.new ≡ source.old }
 {
     let mut places = Vec::new(graph.alloc);

@@ -1,15 +1,18 @@
 //! The chances of a hand by each number of turns.
-ghost use Rattle.std.specs.Prelude.{◌≡◌, ◌<◌, ◌≤◌, IfOk, length, true};
+ghost use Rattle.std.specs.Prelude.{◌≡◌, ◌<◌, ◌≤◌, IfOk, OnOk, length, true};
 ghost use Rattle.riichi_hand.specs.Hand.{is_thirteen};
 ghost use Rattle.riichi_hand.specs.HandParts.{ShapeParts};
 ghost use Rattle.riichi_chances.specs.Chances as spec;
-ghost use Rattle.riichi_chances.specs.Graph.{IsGraph, hand_at};
+ghost use Rattle.riichi_chances.specs.Draws.{unseen_of};
+ghost use Rattle.riichi_chances.specs.Graph.{AreBefore, IsGraph};
+ghost use Rattle.riichi_chances.specs.Reachable.{ComesToFew, ComesToMore, OnTooMany, by_itself};
 
 use crate::building::place_of;
 use crate::counting::fill;
 use crate::fault::ChancesFault;
 use crate::goal::Goal;
 use crate::graph::Graph;
+use crate::rows::Rows;
 use crate::span::Span;
 use crate::unseen::unseen;
 use riichi_hand::ShapeRecord;
@@ -17,11 +20,14 @@ use riichi_shape::RowSource;
 use std::alloc::{AllocError, Global};
 
 /// At the place of each number of turns: of all ordered draws of so many unseen tiles those that bring a hand to be ready, and those
-/// by which it wins, each by the play that has the most for just these turns.
+/// by which it wins, each by the play that has the most for just these turns; and how many any play that keeps only what brings the
+/// hand nearer has at most.
 #[derive(Clone, Copy, Debug, PartialEq, Eq, Drop)]
 pub struct Chances {
     pub ready: [u128; 19],
     pub win: [u128; 19],
+    pub ready_at_most: [u128; 19],
+    pub win_at_most: [u128; 19],
     pub all: [u128; 19],
 }
 
@@ -34,6 +40,31 @@ impl Chances {
             Goal::Ready => &self.ready,
             Goal::Win => &self.win,
         }
+    }
+
+    /// The most draws that bring the hand to a goal by any play that keeps only what brings it nearer, and then makes a best discard.
+    pub fn at_most(&self, goal: Goal) -> &[u128; 19]
+        ensures { result.now ≡ spec.most_of goal self.now }
+    {
+        match goal {
+            Goal::Ready => &self.ready_at_most,
+            Goal::Win => &self.win_at_most,
+        }
+    }
+}
+
+impl Chances {
+    /// Tells those of one number of turns.
+    fn tell(&mut self, turns: u8, rows: &Rows, all: u128)
+        requires { turns ≤ 18 }
+        ensures { spec.IsTold turns rows.now all self.old self.new }
+    {
+        let place = turns as usize;
+        self.ready[place] = rows.ready[place];
+        self.win[place] = rows.win[place];
+        self.ready_at_most[place] = rows.ready_at_most[place];
+        self.win_at_most[place] = rows.win_at_most[place];
+        self.all[place] = all;
     }
 }
 
@@ -48,40 +79,65 @@ pub fn chances_of<R: RowSource>(
     requires thirteen { is_thirteen asked.now.tiles asked.now.melds ≡ true }
     requires turns { turns ≤ 18 }
     ensures chances { IfOk result (spec.AreChances asked.now turns) }
+    ensures at_most { IfOk result (spec.AreAtMost asked.now (unseen_of asked.now) turns) }
+    ensures plays { IfOk result (spec.IsNoPlayAbove asked.now turns) }
+    ensures few { OnOk result (ComesToFew most_hands (by_itself asked.now)) }
+    ensures many { OnTooMany result (ComesToMore most_hands (by_itself asked.now)) }
     ensures stays { source.new ≡ source.old }
 {
     let unseen = unseen(asked);
     let mut graph = Graph::new(alloc, most_hands);
     let place = place_of(source, &mut graph, asked)?;
-    let chances = by_turns(&graph, place, unseen, turns)?;
-    Ok(chances)
+    let each = by_turns(&graph, &[place], unseen, turns)?;
+    Ok(each[0])
 }
 
-/// The chances of the hand at a place, where so many tiles are unseen.
-fn by_turns(graph: &Graph, place: usize, unseen: u8, turns: u8) -> Result<Chances, AllocError>
+/// The chances of the hands at some places, where so many tiles are unseen.
+pub(crate) fn by_turns(
+    graph: &Graph,
+    places: &[usize],
+    unseen: u8,
+    turns: u8,
+) -> Result<Vec<Chances>, AllocError>
     requires turns { turns ≤ 18 }
     requires unseen { unseen ≤ 136 }
     requires graph { (root : ShapeParts) × IsGraph root graph.now }
-    requires inside { place < length graph.now.nodes.items }
-    ensures { (root : ShapeParts) → IsGraph root graph.now
-        → IfOk result (spec.AreCounted (hand_at root graph.now.hands.keys place) unseen turns) }
+    requires inside { AreBefore (length graph.now.nodes.items) places.now }
+    ensures each { IfOk result (λ each. length each.items ≡ length places.now) }
+    ensures counted { (root : ShapeParts) → IsGraph root graph.now → IfOk result (λ each.
+        spec.AreAllCounted root graph.now.hands.keys places.now unseen turns each.items) }
 {
     let mut rows = Vec::with_capacity(graph.alloc, graph.nodes.len())?;
-    let mut chances = Chances {
+    let mut bests = Vec::new(graph.alloc);
+    let none = Chances {
         ready: [0; 19],
         win: [0; 19],
+        ready_at_most: [0; 19],
+        win_at_most: [0; 19],
         all: [0; 19],
     };
+    let mut each = vec![in graph.alloc; none; places.len()]?;
     for count in 0..turns + 1 {
         let span = Span {
             unseen,
             turns: count,
         };
-        fill(&mut rows, graph, span)?;
-        let left = count as usize;
-        chances.ready[left] = rows[place].ready[left];
-        chances.win[left] = rows[place].win[left];
-        chances.all[left] = span.all_draws()[left];
+        fill(&mut rows, &mut bests, graph, span)?;
+        let all = span.all_draws()[count as usize];
+        tell_each(&mut each, places, rows.as_slice(), count, all);
     }
-    Ok(chances)
+    Ok(each)
+}
+
+/// Tells those of one number of turns of the hands at some places.
+fn tell_each(each: &mut [Chances], places: &[usize], rows: &[Rows], turns: u8, all: u128)
+    requires turns { turns ≤ 18 }
+    requires each { length each.old ≡ length places.now }
+    requires inside { AreBefore (length rows.now) places.now }
+    ensures each { length each.new ≡ length each.old }
+    ensures told { spec.AreAllTold turns places.now rows.now all each.old each.new }
+{
+    for at in 0..places.len() {
+        each[at].tell(turns, &rows[places[at]], all);
+    }
 }

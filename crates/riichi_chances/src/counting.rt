@@ -1,19 +1,33 @@
 //! The numbers of each hand by those of the hands that it leads to.
-ghost use Rattle.std.specs.Prelude.{ℕ, ◌≡◌, ◌^◌, ◌<◌, ◌≤◌, OnOk, length, slice_index};
+ghost use Rattle.std.specs.Prelude.{ℕ, ◌≡◌, ◌^◌, ◌<◌, ◌≤◌, IfOk, OnOk, length, slice_index};
 ghost use Rattle.riichi_hand.specs.HandParts.{ShapeParts};
-ghost use Rattle.riichi_chances.specs.Aims.{HasRows, row_of};
+ghost use Rattle.riichi_chances.specs.Aims.{HasRows, numbers_for};
+ghost use Rattle.riichi_chances.specs.Bests as best;
 ghost use Rattle.riichi_chances.specs.Draws.{greatest};
 ghost use Rattle.riichi_chances.specs.Graph as spec;
 ghost use Rattle.riichi_chances.specs.Numbers as numbers;
-ghost use Rattle.riichi_chances.specs.declared.goal.Goal.{Goal};
+ghost use Rattle.riichi_chances.specs.declared.rows.Column.{Column};
+ghost use Rattle.riichi_chances.specs.declared.rows.Column.TheVariants.{Win, WinAtMost};
 
 use crate::graph::{Draw, Graph};
-use crate::rows::Rows;
-use crate::span::{Span, add_times};
+use crate::rows::{Column, Rows};
+use crate::span::{ByTurns, Span};
 use std::alloc::AllocError;
 
+/// A draw by its live copies, and the greatest numbers of what it leads to.
+#[derive(Clone, Copy)]
+pub(crate) struct Best {
+    pub live: u8,
+    pub rows: Rows,
+}
+
 /// The rows of all hands, in their order.
-pub(crate) fn fill(rows: &mut Vec<Rows>, graph: &Graph, span: Span) -> Result<(), AllocError>
+pub(crate) fn fill(
+    rows: &mut Vec<Rows>,
+    bests: &mut Vec<Best>,
+    graph: &Graph,
+    span: Span,
+) -> Result<(), AllocError>
     requires turns { span.turns ≤ 18 }
     requires unseen { span.unseen ≤ 136 }
     requires graph { (root : ShapeParts) × spec.IsGraph root graph.now }
@@ -23,14 +37,20 @@ pub(crate) fn fill(rows: &mut Vec<Rows>, graph: &Graph, span: Span) -> Result<()
 {
     rows.clear();
     for place in 0..graph.nodes.len() {
-        let row = rows_at(graph, place, rows.as_slice(), span);
+        let row = rows_at(graph, place, rows.as_slice(), bests, span)?;
         rows.push(row)?;
     }
     Ok(())
 }
 
 /// The rows of a hand by those before it.
-fn rows_at(graph: &Graph, place: usize, earlier: &[Rows], span: Span) -> Rows
+fn rows_at(
+    graph: &Graph,
+    place: usize,
+    earlier: &[Rows],
+    bests: &mut Vec<Best>,
+    span: Span,
+) -> Result<Rows, AllocError>
     requires turns { span.turns ≤ 18 }
     requires unseen { span.unseen ≤ 136 }
     requires graph { (root : ShapeParts) × spec.IsGraph root graph.now
@@ -39,17 +59,14 @@ fn rows_at(graph: &Graph, place: usize, earlier: &[Rows], span: Span) -> Rows
     requires all_before { length earlier.now ≡ place }
     ensures { (root : ShapeParts) → spec.IsGraph root graph.now
         → spec.AreRows span root graph.now.hands.keys earlier.now
-        → HasRows span (spec.hand_at root graph.now.hands.keys place) result }
+        → IfOk result (HasRows span (spec.placed_hand root graph.now.hands.keys place)) }
 {
     let node = &graph.nodes[place];
     if node.is_ready {
-        return ready_rows(node.live, span);
+        return Ok(ready_rows(node.live, span));
     }
-    let begun = begun(node.draws.as_slice(), earlier, span.turns);
-    Rows {
-        ready: span.follow(node.live, &begun.ready),
-        win: span.follow(node.live, &begun.win),
-    }
+    best_of_each(bests, node.draws.as_slice(), earlier, span.turns)?;
+    Ok(far_rows(bests.as_slice(), node.live, span))
 }
 
 /// The rows of a ready hand, which wins by any of so many live tiles.
@@ -58,43 +75,102 @@ fn ready_rows(live: u8, span: Span) -> Rows
     requires unseen { span.unseen ≤ 136 }
     requires live { live ≤ 136 }
     ensures ready { numbers.AreAllDraws span result.ready }
-    ensures none { slice_index result.win 0 ≡ 0 }
-    ensures win { numbers.FollowReady span live result.win }
+    ensures at_most { numbers.AreAllDraws span result.ready_at_most }
+    ensures win { best.FollowReady Win span live result.win }
+    ensures win_at_most { best.FollowReady WinAtMost span live result.win_at_most }
 {
     let all = span.all_draws();
-    let mut begun = [0; 19];
-    add_times(&mut begun, &all, live, span.turns);
+    let wins = [Best {
+        live,
+        rows: Rows::all(all),
+    }];
     Rows {
         ready: all,
-        win: span.follow(live, &begun),
+        win: follow(span, live, &wins, Column::Win),
+        ready_at_most: all,
+        win_at_most: follow(span, live, &wins, Column::WinAtMost),
     }
 }
 
-/// The draws that begin with one of these.
-fn begun(draws: &[Draw], earlier: &[Rows], turns: u8) -> Rows
+/// The rows of a hand that isn't ready, and accepts so many live tiles.
+fn far_rows(bests: &[Best], live: u8, span: Span) -> Rows
+    requires turns { span.turns ≤ 18 }
+    requires unseen { span.unseen ≤ 136 }
+    requires live { live ≤ 136 }
+    requires few { (column : Column) → best.BeginFew column span live bests.now }
+    ensures { (column : Column) → best.FollowBests column span live bests.now
+        (numbers_for column result) }
+{
+    Rows {
+        ready: follow(span, live, bests, Column::Ready),
+        win: follow(span, live, bests, Column::Win),
+        ready_at_most: follow(span, live, bests, Column::ReadyAtMost),
+        win_at_most: follow(span, live, bests, Column::WinAtMost),
+    }
+}
+
+/// The draws of a hand that isn't there: where the first tile isn't one of so many live ones those of the turns behind it,
+/// and those that begin with one of these.
+fn follow(span: Span, live: u8, bests: &[Best], column: Column) -> ByTurns
+    requires turns { span.turns ≤ 18 }
+    requires unseen { span.unseen ≤ 136 }
+    requires live { live ≤ 136 }
+    requires few { best.BeginFew column span live bests.now }
+    ensures { best.FollowBests column span live bests.now result }
+{
+    let mut row = [0; 19];
+    for left in 0..span.turns {
+        let others = span.unseen_at(left + 1).saturating_sub(live) as u128;
+        let own = row[left as usize];
+        let begun = begun(bests, column, left, column.least(own));
+        row[left as usize + 1] = others * own + begun;
+    }
+    row
+}
+
+/// The draws that begin with one of these, where none leads to fewer than so many.
+fn begun(bests: &[Best], column: Column, left: u8, least: u128) -> u128
+    requires left { left < 19 }
+    requires fits { best.bests_value column left least bests.now < 2 ^ 128 }
+    ensures { result ≡ best.bests_value column left least bests.now }
+{
+    let mut sum = 0;
+    for best in bests {
+        let number = best.rows.at(column)[left as usize];
+        sum += best.live as u128 * number.max(least);
+    }
+    sum
+}
+
+/// What each draw leads to at best.
+fn best_of_each(
+    bests: &mut Vec<Best>,
+    draws: &[Draw],
+    earlier: &[Rows],
+    turns: u8,
+) -> Result<(), AllocError>
     requires turns { turns ≤ 18 }
     requires before { spec.LeadBefore (length earlier.now) draws.now }
-    requires fits { (goal : Goal) (left : ℕ) → left < turns
-        → spec.draws_value (spec.number_at goal earlier.now left) draws.now < 2 ^ 128 }
-    ensures { (goal : Goal) (left : ℕ) → left < turns → slice_index (row_of goal result) left
-        ≡ spec.draws_value (spec.number_at goal earlier.now left) draws.now }
+    ensures { OnOk result (best.AreBests turns earlier.now draws.now bests.new.items) }
 {
-    let mut sums = Rows::none();
+    bests.clear();
     for draw in draws {
-        let best = best_of(draw.rests.as_slice(), earlier, turns);
-        sums.add_times(&best, draw.live, turns);
+        let live = draw.live;
+        let rows = best_of(draw.rests.as_slice(), earlier, turns);
+        bests.push(Best { live, rows })?;
     }
-    sums
+    Ok(())
 }
 
 /// The greatest numbers of some places.
 fn best_of(places: &[usize], earlier: &[Rows], turns: u8) -> Rows
     requires turns { turns ≤ 18 }
     requires before { spec.AreBefore (length earlier.now) places.now }
-    ensures { (goal : Goal) (left : ℕ) → left < turns → slice_index (row_of goal result) left
-        ≡ greatest (spec.number_at goal earlier.now left) places.now }
+    ensures { (column : Column) (left : ℕ) → left < turns
+        → slice_index (numbers_for column result) left
+        ≡ greatest (spec.placed_number column earlier.now left) places.now }
 {
-    let mut best = Rows::none();
+    let mut best = Rows::all([0; 19]);
     for place in places {
         best.keep_greater(&earlier[*place], turns);
     }

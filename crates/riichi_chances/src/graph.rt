@@ -1,7 +1,8 @@
 //! The hands that a hand may come to, each once.
-ghost use Rattle.std.specs.Prelude.{IfOk, IfSome, OnOk, length};
+ghost use Rattle.std.specs.Prelude.{◌≡◌, [], All, IfNone, IfOk, IfSome, OnOk, length};
 ghost use Rattle.riichi_hand.specs.HandParts.{ShapeParts};
 ghost use Rattle.riichi_chances.specs.Graph as spec;
+ghost use Rattle.riichi_chances.specs.Reachable.{ComesToMore, HandGroup, IsWithin, MayCome, OnTooMany};
 
 use crate::fault::ChancesFault;
 use indexmap::IndexSet;
@@ -36,7 +37,9 @@ pub(crate) struct Graph {
 impl Graph {
     /// No hands, and room for so many at most.
     pub fn new(alloc: Global, most_hands: usize) -> Graph
-        ensures { (root : ShapeParts) → spec.IsGraph root result }
+        ensures graph { (root : ShapeParts) → spec.IsGraph root result }
+        ensures none { result.hands.keys ≡ [] }
+        ensures most { result.most_hands ≡ most_hands }
     {
         Graph {
             alloc,
@@ -60,24 +63,40 @@ impl Graph {
         requires node { spec.IsNode self.old.hands.keys (length self.old.nodes.items) asked.now node }
         ensures grows { OnOk result (spec.Grows asked.now self.old self.new) }
         ensures place { IfOk result (spec.IsPlaceOf self.new asked.now) }
+        ensures within { (group : HandGroup) → IsWithin group asked.now self.old
+            → MayCome group asked.now.tiles
+            → OnOk result (All (MayCome group) self.new.hands.keys) }
+        ensures many { (group : HandGroup) → IsWithin group asked.now self.old
+            → MayCome group asked.now.tiles
+            → OnTooMany result (ComesToMore self.old.most_hands group) }
     {
-        if self.nodes.len() >= self.most_hands {
-            return Err(ChancesFault::TooManyHands);
+        match self.take(asked, node)? {
+            Some(place) => Ok(place),
+            None => Err(ChancesFault::TooManyHands),
         }
-        let place = self.take(asked, node)?;
-        Ok(place)
     }
 
-    fn take(&mut self, asked: &ShapeRecord, node: Node) -> Result<usize, AllocError>
+    /// The same, or none where it would be one hand too many.
+    fn take(&mut self, asked: &ShapeRecord, node: Node) -> Result<Option<usize>, AllocError>
         requires graph { spec.IsGraph asked.now self.old }
         requires node { spec.IsNode self.old.hands.keys (length self.old.nodes.items) asked.now node }
-        ensures grows { OnOk result (spec.Grows asked.now self.old self.new) }
-        ensures place { IfOk result (spec.IsPlaceOf self.new asked.now) }
+        ensures grows { IfOk result (λ place. IfSome place
+            (λ _. spec.Grows asked.now self.old self.new)) }
+        ensures place { IfOk result (λ place. IfSome place (spec.IsPlaceOf self.new asked.now)) }
+        ensures within { (group : HandGroup) → IsWithin group asked.now self.old
+            → MayCome group asked.now.tiles
+            → OnOk result (All (MayCome group) self.new.hands.keys) }
+        ensures many { (group : HandGroup) → IsWithin group asked.now self.old
+            → MayCome group asked.now.tiles
+            → IfOk result (λ place. IfNone place (ComesToMore self.old.most_hands group)) }
     {
         let (place, is_new) = self.hands.insert_full(asked.tiles().to_array())?;
         if is_new {
+            if self.nodes.len() >= self.most_hands {
+                return Ok(None);
+            }
             self.nodes.push(node)?;
         }
-        Ok(place)
+        Ok(Some(place))
     }
 }

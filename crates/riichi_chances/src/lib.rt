@@ -5,13 +5,17 @@
 //! table. A tile that brings the hand nearer is kept, and of the best discards the one is made after which most draws lead there; any
 //! other tile is thrown at once, and no tile comes back. So the chance is what this play reaches, and no bound of what another might.
 //!
+//! Beside it stands an upper end: no play that keeps only what brings the hand nearer, and then makes a best discard, reaches more,
+//! whatever of these tiles it throws at once ([`laws::no_play_has_more`]).
+//!
 //! It is found by the kinds that the hand accepts alone, from the hand and the turns that are left: what was thrown on the way is
 //! accepted no more, so it need not be known ([`laws::hand_and_turns`]). Each hand that it may come to is taken once, with the hands
 //! that it leads to, which stand before it: `graph` is these hands and `building` takes them, by `riichi_shape::shape_with` and the
-//! rows of a source. Then, for each number of turns, `counting` makes the numbers of each hand of those before it.
+//! rows of a source. Then, for each number of turns, `counting` makes the numbers of each hand of those before it. All best discards
+//! of fourteen tiles share one such list.
 //!
-//! A call takes memory for its hands, some two kilobytes each, and refuses a hand that may come to more of them than it is told
-//! ([`ChancesFault`]). It never tells another number.
+//! A call takes memory for its hands, some three kilobytes each, and refuses what may come to more of them than it is told
+//! ([`ChancesFault`]). It never tells another number, and it refuses nothing that comes to no more.
 //!
 //! So `234m45678p34s558s`, of 123 unseen tiles, is ready by the next draw in 20 of 123 cases, and wins by two draws in 165 of
 //! 15,006.

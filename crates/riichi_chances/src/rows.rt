@@ -1,48 +1,75 @@
-//! Numbers of draws for both goals.
+//! Numbers of draws for both goals, with their upper ends.
 ghost use Rattle.std.specs.Prelude.{ℕ, ◌≡◌, ◌≤◌, slice_index};
-ghost use Rattle.riichi_chances.specs.Aims.{row_of};
-ghost use Rattle.riichi_chances.specs.Numbers as spec;
-ghost use Rattle.riichi_chances.specs.declared.goal.Goal.{Goal};
+ghost use Rattle.riichi_chances.specs.Aims as spec;
+ghost use Rattle.riichi_chances.specs.declared.rows.Column.{Column};
+ghost use Rattle.riichi_chances.specs.Numbers.{AreGreater};
 
-use crate::span::{ByTurns, add_times, keep_greater};
+use crate::span::{ByTurns, keep_greater};
 
-/// At each place the numbers of draws where so many turns are left: of those that bring a hand to be ready, and of those that win.
+/// For a goal the draws that are reached, or the upper end.
+#[derive(Clone, Copy)]
+pub(crate) enum Column {
+    Ready,
+    Win,
+    ReadyAtMost,
+    WinAtMost,
+}
+
+impl Column {
+    /// The least number that counts for what an accepted tile leads to, where the hand itself has so many: for an upper end as
+    /// many, since the tile may be thrown.
+    pub fn least(self, own: u128) -> u128
+        ensures { result ≡ spec.floor_of self own }
+    {
+        match self {
+            Column::Ready | Column::Win => 0,
+            Column::ReadyAtMost | Column::WinAtMost => own,
+        }
+    }
+}
+
+/// At each place the numbers of draws where so many turns are left.
 #[derive(Clone, Copy)]
 pub(crate) struct Rows {
     pub ready: ByTurns,
     pub win: ByTurns,
+    pub ready_at_most: ByTurns,
+    pub win_at_most: ByTurns,
 }
 
 impl Rows {
-    /// No draws.
-    pub fn none() -> Rows
-        ensures { (goal : Goal) (left : ℕ) → slice_index (row_of goal result) left ≡ 0 }
+    /// The same numbers in each column.
+    pub fn all(numbers: ByTurns) -> Rows
+        ensures { (column : Column) → spec.numbers_for column result ≡ numbers }
     {
         Rows {
-            ready: [0; 19],
-            win: [0; 19],
+            ready: numbers,
+            win: numbers,
+            ready_at_most: numbers,
+            win_at_most: numbers,
         }
     }
 
-    /// Adds so many times each number.
-    pub fn add_times(&mut self, more: &Rows, times: u8, turns: u8)
-        requires turns { turns ≤ 18 }
-        requires fits { (goal : Goal)
-            → spec.FitTogether turns times (row_of goal more.now) (row_of goal self.old) }
-        ensures { (goal : Goal) → spec.AreAdded turns times
-            (row_of goal more.now) (row_of goal self.old) (row_of goal self.new) }
+    pub fn at(&self, column: Column) -> &ByTurns
+        ensures { result.now ≡ spec.numbers_for column self.now }
     {
-        add_times(&mut self.ready, &more.ready, times, turns);
-        add_times(&mut self.win, &more.win, times, turns);
+        match column {
+            Column::Ready => &self.ready,
+            Column::Win => &self.win,
+            Column::ReadyAtMost => &self.ready_at_most,
+            Column::WinAtMost => &self.win_at_most,
+        }
     }
 
     /// Keeps of each two numbers the greater.
     pub fn keep_greater(&mut self, other: &Rows, turns: u8)
         requires { turns ≤ 18 }
-        ensures { (goal : Goal) → spec.AreGreater turns
-            (row_of goal other.now) (row_of goal self.old) (row_of goal self.new) }
+        ensures { (column : Column) → AreGreater turns (spec.numbers_for column other.now)
+            (spec.numbers_for column self.old) (spec.numbers_for column self.new) }
     {
         keep_greater(&mut self.ready, &other.ready, turns);
         keep_greater(&mut self.win, &other.win, turns);
+        keep_greater(&mut self.ready_at_most, &other.ready_at_most, turns);
+        keep_greater(&mut self.win_at_most, &other.win_at_most, turns);
     }
 }

@@ -1,14 +1,15 @@
-use Rattle.std.proofs.Common.{◌≡◌, length}
+use Rattle.std.proofs.Common.{◌≡◌, ℕ, ◌<◌, length}
+use Rattle.std.specs.Prelude.{slice_index, slice_index_or}
 use Rattle.riichi_hand.specs.HandParts.{ShapeParts}
-use Rattle.riichi_chances.specs.Graph.{IsGraph, hand_at}
-use Rattle.riichi_chances.proofs.ChancesLemmas.{CountedBelow}
+use Rattle.riichi_chances.specs.Graph.{IsGraph, placed_hand}
+use Rattle.riichi_chances.specs.declared.chances.Chances.{Chances}
+use Rattle.riichi_chances.proofs.ChancesLemmas.{AreLong, CountedBelow}
 use Rattle.riichi_chances.proofs.chances.by_turns.Given as goal
 
 -- the chances so far
 abbrev pub invariant-loop-count : goal.invariant-loop-count
 invariant-loop-count l = record {
-  ready_long : length l.chances.ready ≡ 19;
-  win_long : length l.chances.win ≡ 19;
-  all_long : length l.chances.all ≡ 19;
-  told : (root : ShapeParts) → IsGraph root l.graph → CountedBelow (hand_at root l.graph.hands.keys l.place) l.unseen l.count l.chances;
+  each : length l.each.items ≡ length l.places;
+  long : (at : ℕ) (chances : Chances) → at < length l.places → AreLong (slice_index_or l.each.items at chances);
+  told : (root : ShapeParts) → IsGraph root l.graph → (at : ℕ) (chances : Chances) → at < length l.places → CountedBelow (placed_hand root l.graph.hands.keys (slice_index l.places at)) l.unseen l.count (slice_index_or l.each.items at chances);
 }

@@ -1,6 +1,9 @@
-use Rattle.riichi_chances.proofs.RowLemmas.{SumsSoFar}
+use Rattle.std.proofs.Common.{◌≡◌, ◌+◌, drop}
+use Rattle.riichi_chances.specs.Bests.{bests_value}
 use Rattle.riichi_chances.proofs.counting.begun.Given as goal
 
--- the sums so far, and those of the draws that are left
-abbrev pub invariant-loop-draw : goal.invariant-loop-draw
-invariant-loop-draw l = SumsSoFar l.earlier l.draws l.turns l.sums l.draw-index
+-- the sum so far, and that of those that are left
+abbrev pub invariant-loop-best : goal.invariant-loop-best
+invariant-loop-best l = record {
+  so_far : l.sum + bests_value l.column l.left l.least (drop l.best-index l.bests) ≡ bests_value l.column l.left l.least l.bests;
+}

@@ -4,7 +4,7 @@ use Rattle.riichi_chances.proofs.RowLemmas.{best_end, best_init, best_step}
 use Rattle.riichi_chances.proofs.counting.best_of.Goals as goal
 
 pub loop-place-init : goal.loop-place-init
-loop-place-init c = best_init c.args.earlier.now c.args.places.now c.args.turns c.none-best.result c.none-best.ensures
+loop-place-init c = best_init c.args.earlier.now c.args.places.now c.args.turns c.all-best.result c.all-best.ensures
 
 pub loop-place-preserved : goal.loop-place-preserved
 loop-place-preserved c =

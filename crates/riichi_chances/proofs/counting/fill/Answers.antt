@@ -9,8 +9,8 @@ loop-place-preserved c =
     let rows = c.loop-place.rows.items in
     let so_far = c.loop-place.invariant in
     record {
-      each = omega (arith, ap length c.in_ok-push.ensures.items, length-append rows (c.rows_at-row.result ∷ []), so_far.each);
+      each = omega (arith, ap length c.in_ok-push.ensures.items, length-append rows (c.in_ok-row.row ∷ []), so_far.each);
       are = λ root is.
-          rows_more c.args.span root keys rows c.push.new.self.items c.loop-place.place c.rows_at-row.result (so_far.are root is) so_far.each
-          (c.rows_at-row.ensures root is (subst (AreRows c.args.span root keys) (sym c.as_slice.ensures.value) (so_far.are root is))) c.in_ok-push.ensures.items;
+          rows_more c.args.span root keys rows c.push.new.self.items c.loop-place.place c.in_ok-row.row (so_far.are root is) so_far.each
+          (c.in_ok-row.ensures root is (subst (AreRows c.args.span root keys) (sym c.as_slice.ensures.value) (so_far.are root is))) c.in_ok-push.ensures.items;
     }

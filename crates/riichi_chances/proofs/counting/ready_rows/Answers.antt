@@ -1,13 +1,15 @@
-use Rattle.std.specs.Prelude.{replicate}
-use Rattle.riichi_chances.proofs.CountingLemmas.{zero_at}
-use Rattle.riichi_chances.proofs.RowLemmas.{ready_begin, ready_fits, ready_follow}
+use Rattle.riichi_chances.specs.declared.rows.Column.TheVariants.{Win, WinAtMost}
+use Rattle.riichi_chances.proofs.RowLemmas.{ready_begin, ready_follow}
 use Rattle.riichi_chances.proofs.counting.ready_rows.Goals as goal
 
-pub add_times-requires-clause-fits : goal.add_times-requires-clause-fits
-add_times-requires-clause-fits c = ready_fits c.args.span c.args.live c.requires.turns c.requires.unseen c.requires.live (replicate 19 0) c.all_draws-all.result (zero_at 19) c.all_draws-all.ensures
-
 pub follow-requires-clause-few : goal.follow-requires-clause-few
-follow-requires-clause-few c = ready_begin c.args.span c.args.live c.requires.turns c.requires.unseen c.requires.live (replicate 19 0) c.all_draws-all.result (zero_at 19) c.all_draws-all.ensures c.add_times.new.sums c.add_times.ensures
+follow-requires-clause-few c = ready_begin Win c.args.span c.args.live c.requires.unseen c.all_draws-all.result c.all_draws-all.ensures c.all.result (c.all.ensures Win)
+
+pub follow-requires-2-clause-few : goal.follow-requires-2-clause-few
+follow-requires-2-clause-few c = ready_begin WinAtMost c.args.span c.args.live c.requires.unseen c.all_draws-all.result c.all_draws-all.ensures c.all.result (c.all.ensures WinAtMost)
 
 pub returns-clause-win : goal.returns-clause-win
-returns-clause-win c = ready_follow c.args.span c.args.live c.requires.turns c.requires.unseen c.requires.live (replicate 19 0) c.all_draws-all.result (zero_at 19) c.all_draws-all.ensures c.add_times.new.sums c.add_times.ensures c.follow.result c.follow.ensures.more
+returns-clause-win c = ready_follow Win c.args.span c.args.live c.requires.unseen c.all_draws-all.result c.all_draws-all.ensures c.all.result (c.all.ensures Win) c.follow.result c.follow.ensures
+
+pub returns-clause-win_at_most : goal.returns-clause-win_at_most
+returns-clause-win_at_most c = ready_follow WinAtMost c.args.span c.args.live c.requires.unseen c.all_draws-all.result c.all_draws-all.ensures c.all.result (c.all.ensures WinAtMost) c.follow-2.result c.follow-2.ensures

@@ -1,16 +1,61 @@
-use Rattle.std.proofs.Common.{◌≡◌, IfOk, List, subst}
-use Rattle.riichi_deeper.proofs.DrawnLemmas.{list_of_fourteen, never_thirteen}
+use Rattle.std.proofs.Common.{◌≡◌, FitsSigned, IfOk, List, rules, sym, subst, ◌∙◌, arith}
+use Rattle.std.proofs.Common as width
+use Rattle.std.proofs.lemmas.Bool.{leb-false}
+use Rattle.std.proofs.lemmas.Int.{ints}
+use Rattle.riichi_shape.specs.EveryWinning.{distance_of}
 use Rattle.riichi_shape.specs.declared.discard.Discard.{Discard}
-use Rattle.riichi_chances.proofs.ChancesLemmas.{kinds_of, told_kinds}
+use Rattle.riichi_deeper.proofs.DrawnLemmas.{list_of_fourteen, never_thirteen, shanten_told}
+use Rattle.riichi_chances.specs.Graph.{discard_kinds}
+use Rattle.riichi_chances.proofs.ChancesLemmas.{told_kinds}
+use Rattle.riichi_chances.proofs.ReachableLemmas.{few_by_one, few_in_all, many_by_one, many_in_all, on_ok_as, too_many_as}
 use Rattle.riichi_chances.proofs.discards.discard_chances.Goals as goal
 
-pub after_each-requires-clause-discards : goal.after_each-requires-clause-discards
-after_each-requires-clause-discards g c = list_of_fourteen c.args.asked.now c.shape_with-answer.result c.in-Fourteen.discards c.shape_with-answer.ensures.shape c.requires.fourteen c.in-Fourteen.is
+pub each_alone-requires-clause-discards : goal.each_alone-requires-clause-discards
+each_alone-requires-clause-discards g c = list_of_fourteen c.args.asked.now c.shape_with-answer.result c.in-Fourteen.discards c.shape_with-answer.ensures.shape c.requires.fourteen c.in-Fourteen.is
+
+pub all_together-requires-clause-far : goal.all_together-requires-clause-far
+all_together-requires-clause-far g c =
+    let parts = c.args.asked.now in
+    let fits : FitsSigned width.w8 c.shape_with-answer.result.shanten = search rules in
+    let far = sym (c.is_won.ensures (distance_of parts.tiles parts.melds) (omega (arith, ints, shanten_told parts c.shape_with-answer.result c.shape_with-answer.ensures.shape))) ∙ c.if-is_won.false in
+    omega (arith, leb-false (distance_of parts.tiles parts.melds) 0 far)
+
+pub each_alone-requires-clause-won : goal.each_alone-requires-clause-won
+each_alone-requires-clause-won g c =
+    let parts = c.args.asked.now in
+    let fits : FitsSigned width.w8 c.shape_with-answer.result.shanten = search rules in
+    sym (c.is_won.ensures (distance_of parts.tiles parts.melds) (omega (arith, ints, shanten_told parts c.shape_with-answer.result c.shape_with-answer.ensures.shape))) ∙ c.if-is_won.true
+
+pub all_together-requires-clause-discards : goal.all_together-requires-clause-discards
+all_together-requires-clause-discards g c = list_of_fourteen c.args.asked.now c.shape_with-answer.result c.in-Fourteen.discards c.shape_with-answer.ensures.shape c.requires.fourteen c.in-Fourteen.is
 
 pub unreachable-requires : goal.unreachable-requires
 unreachable-requires g c = never_thirteen c.args.asked.now c.shape_with-answer.result c.in-Thirteen.field-0 c.shape_with-answer.ensures.shape c.requires.fourteen c.in-Thirteen.is
 
-pub returns-clause-each : goal.returns-clause-each
-returns-clause-each g c =
-    let list_is = list_of_fourteen c.args.asked.now c.shape_with-answer.result c.in-Fourteen.discards c.shape_with-answer.ensures.shape c.requires.fourteen c.in-Fourteen.is in
-    subst (λ (discards : List Discard). IfOk c.after_each.result (λ each. told_kinds each.items ≡ kinds_of discards)) list_is c.after_each.ensures.each
+pub returns-then-is_won-clause-each : goal.returns-then-is_won-clause-each
+returns-then-is_won-clause-each g c =
+    subst (λ (discards : List Discard). IfOk c.each_alone.result (λ each. told_kinds each.items ≡ discard_kinds discards)) (list_of_fourteen c.args.asked.now c.shape_with-answer.result c.in-Fourteen.discards c.shape_with-answer.ensures.shape c.requires.fourteen c.in-Fourteen.is) c.each_alone.ensures.each
+
+pub returns-else-is_won-clause-each : goal.returns-else-is_won-clause-each
+returns-else-is_won-clause-each g c =
+    subst (λ (discards : List Discard). IfOk c.all_together.result (λ each. told_kinds each.items ≡ discard_kinds discards)) (list_of_fourteen c.args.asked.now c.shape_with-answer.result c.in-Fourteen.discards c.shape_with-answer.ensures.shape c.requires.fourteen c.in-Fourteen.is) c.all_together.ensures.each
+
+pub returns-then-is_won-clause-few : goal.returns-then-is_won-clause-few
+returns-then-is_won-clause-few g c =
+    let fits : FitsSigned width.w8 c.shape_with-answer.result.shanten = search rules in
+    on_ok_as c.each_alone.result (few_by_one c.args.asked.now c.in-Fourteen.discards (list_of_fourteen c.args.asked.now c.shape_with-answer.result c.in-Fourteen.discards c.shape_with-answer.ensures.shape c.requires.fourteen c.in-Fourteen.is) c.args.most_hands (sym (c.is_won.ensures (distance_of c.args.asked.now.tiles c.args.asked.now.melds) (omega (arith, ints, shanten_told c.args.asked.now c.shape_with-answer.result c.shape_with-answer.ensures.shape))) ∙ c.if-is_won.true)) c.each_alone.ensures.few
+
+pub returns-then-is_won-clause-many : goal.returns-then-is_won-clause-many
+returns-then-is_won-clause-many g c =
+    let fits : FitsSigned width.w8 c.shape_with-answer.result.shanten = search rules in
+    too_many_as c.each_alone.result (many_by_one c.args.asked.now c.in-Fourteen.discards (list_of_fourteen c.args.asked.now c.shape_with-answer.result c.in-Fourteen.discards c.shape_with-answer.ensures.shape c.requires.fourteen c.in-Fourteen.is) c.args.most_hands (sym (c.is_won.ensures (distance_of c.args.asked.now.tiles c.args.asked.now.melds) (omega (arith, ints, shanten_told c.args.asked.now c.shape_with-answer.result c.shape_with-answer.ensures.shape))) ∙ c.if-is_won.true)) c.each_alone.ensures.many
+
+pub returns-else-is_won-clause-few : goal.returns-else-is_won-clause-few
+returns-else-is_won-clause-few g c =
+    let fits : FitsSigned width.w8 c.shape_with-answer.result.shanten = search rules in
+    on_ok_as c.all_together.result (few_in_all c.args.asked.now c.in-Fourteen.discards (list_of_fourteen c.args.asked.now c.shape_with-answer.result c.in-Fourteen.discards c.shape_with-answer.ensures.shape c.requires.fourteen c.in-Fourteen.is) c.args.most_hands (sym (c.is_won.ensures (distance_of c.args.asked.now.tiles c.args.asked.now.melds) (omega (arith, ints, shanten_told c.args.asked.now c.shape_with-answer.result c.shape_with-answer.ensures.shape))) ∙ c.if-is_won.false)) c.all_together.ensures.few
+
+pub returns-else-is_won-clause-many : goal.returns-else-is_won-clause-many
+returns-else-is_won-clause-many g c =
+    let fits : FitsSigned width.w8 c.shape_with-answer.result.shanten = search rules in
+    too_many_as c.all_together.result (many_in_all c.args.asked.now c.in-Fourteen.discards (list_of_fourteen c.args.asked.now c.shape_with-answer.result c.in-Fourteen.discards c.shape_with-answer.ensures.shape c.requires.fourteen c.in-Fourteen.is) c.args.most_hands (sym (c.is_won.ensures (distance_of c.args.asked.now.tiles c.args.asked.now.melds) (omega (arith, ints, shanten_told c.args.asked.now c.shape_with-answer.result c.shape_with-answer.ensures.shape))) ∙ c.if-is_won.false)) c.all_together.ensures.many

@@ -1,6 +1,6 @@
 use Rattle.std.proofs.Common.{◌≡◌, List, ℕ, length, sym, ap, ◌∙◌, arith}
 use Rattle.std.specs.Prelude.{slice_index}
-use Rattle.riichi_chances.proofs.UnseenLemmas.{copies_of, copies_told, is_whole, unseen_end, unseen_init, unseen_step}
+use Rattle.riichi_chances.proofs.UnseenLemmas.{copies_of, copies_told, is_whole, is_whole_drawn, unseen_end, unseen_init, unseen_step}
 use Rattle.riichi_chances.proofs.unseen.unseen.Goals as goal
 
 pub loop-kind-init : goal.loop-kind-init
@@ -30,7 +30,12 @@ loop-kind-preserved c =
 pub returns-clause-value : goal.returns-clause-value
 returns-clause-value c = unseen_end c.args.asked.now c.loop-kind.kind c.loop-kind.unseen (omega arith) c.loop-kind.invariant.so_far
 
-pub returns-clause-whole : goal.returns-clause-whole
-returns-clause-whole c =
+pub returns-clause-thirteen : goal.returns-clause-thirteen
+returns-clause-thirteen c =
     is_whole c.args.asked.now c.tiles.ensures.shape (ap (λ (counts : List ℕ). length counts) (sym c.tiles.ensures.value) ∙ c.to_array-held.ensures.counts.each_kind)
-    (ap (λ (counts : List ℕ). length counts) (sym c.seen.ensures) ∙ c.to_array-elsewhere.ensures.counts.each_kind) c.requires
+    (ap (λ (counts : List ℕ). length counts) (sym c.seen.ensures) ∙ c.to_array-elsewhere.ensures.counts.each_kind)
+
+pub returns-clause-fourteen : goal.returns-clause-fourteen
+returns-clause-fourteen c =
+    is_whole_drawn c.args.asked.now c.tiles.ensures.shape (ap (λ (counts : List ℕ). length counts) (sym c.tiles.ensures.value) ∙ c.to_array-held.ensures.counts.each_kind)
+    (ap (λ (counts : List ℕ). length counts) (sym c.seen.ensures) ∙ c.to_array-elsewhere.ensures.counts.each_kind)

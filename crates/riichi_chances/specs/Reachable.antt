@@ -1,0 +1,78 @@
+-- Which hands a hand may come to, and how many they are.
+use Rattle.std.specs.Prelude.{◌≡◌, ℕ, ◌<◌, ◌≤◌, true, nat_eq, if◌then◌else◌, List, [], ◌∷◌, length, map, All, Contains, Result, Ok, Err}
+use Rattle.std.specs.Cmp.Lexicographic.{pointwise}
+use Rattle.std.specs.List.{IsDistinct}
+use Rattle.riichi_hand.specs.HandParts.{ShapeParts}
+use Rattle.riichi_shape.specs.Accepted.{is_accepted, with_one, without_one}
+use Rattle.riichi_shape.specs.Discards.{discards_of, is_discard}
+use Rattle.riichi_shape.specs.EveryWinning.{distance_of}
+use Rattle.riichi_deeper.specs.Drawn.{parts_without}
+use Rattle.riichi_chances.specs.Draws.{is_there}
+use Rattle.riichi_chances.specs.Graph.{discard_kinds}
+use Rattle.riichi_chances.specs.declared.fault.ChancesFault.{ChancesFault}
+use Rattle.riichi_chances.specs.declared.fault.ChancesFault.TheVariants.{Memory, TooManyHands}
+use Rattle.riichi_chances.specs.declared.graph.Graph.{Graph}
+
+-- some hands of thirteen tiles, with the melds of one and what that sees
+pub record HandGroup : Type 0 where
+  pub root : ShapeParts
+  pub firsts : List (List ℕ)
+
+-- a hand that isn't ready draws a tile that it accepts, and makes a best discard
+pub record IsStep (root : ShapeParts) (hand : List ℕ) (kind thrown : ℕ) : Type 0 where
+  pub far : 1 < distance_of hand root.melds
+  pub is_kind : kind < 34
+  pub accepted : is_accepted hand root.melds root.seen kind ≡ true
+  pub is_thrown : thrown < 34
+  pub best : is_discard (with_one hand kind) root.melds thrown ≡ true
+
+-- the hands of a group, and all that such steps lead to
+pub data MayCome (group : HandGroup) : List ℕ → Type 0 where
+  AtFirst : (hand : List ℕ) → Contains group.firsts hand → MayCome group hand
+  ByStep : (hand : List ℕ) (kind thrown : ℕ) → MayCome group hand → IsStep group.root hand kind thrown → MayCome group (without_one (with_one hand kind) thrown)
+
+-- all of them are among so many hands
+pub record ComesToFew (most : ℕ) (group : HandGroup) : Type 0 where
+  pub hands : List (List ℕ)
+  pub few : length hands ≤ most
+  pub all : (hand : List ℕ) → MayCome group hand → Contains hands hand
+
+-- they are more than so many
+pub record ComesToMore (most : ℕ) (group : HandGroup) : Type 0 where
+  pub hands : List (List ℕ)
+  pub more : most < length hands
+  pub different : IsDistinct (pointwise nat_eq) hands
+  pub each : All (MayCome group) hands
+
+-- a hand by itself
+abbrev pub by_itself : ShapeParts → HandGroup
+by_itself parts = record { root = parts; firsts = parts.tiles ∷ [] }
+
+-- what the best discards of fourteen tiles leave
+abbrev pub together : ShapeParts → HandGroup
+together drawn = record { root = drawn; firsts = map (without_one drawn.tiles) (discard_kinds (discards_of drawn.tiles drawn.melds drawn.seen)) }
+
+-- of a won hand each by itself, since it may accept what was thrown
+abbrev pub groups_of : ShapeParts → List HandGroup
+groups_of drawn = if is_there 0 drawn then map (λ kind. by_itself (parts_without drawn kind)) (discard_kinds (discards_of drawn.tiles drawn.melds drawn.seen)) else together drawn ∷ []
+
+-- ---- while the hands are taken
+
+-- all that were taken may be come to
+pub record IsWithin (group : HandGroup) (parts : ShapeParts) (graph : Graph) : Type 0 where
+  pub melds : group.root.melds ≡ parts.melds
+  pub seen : group.root.seen ≡ parts.seen
+  pub each : All (MayCome group) graph.hands.keys
+
+-- what the best discards leave may be come to
+abbrev pub RestsMayCome : HandGroup → ShapeParts → Type 0
+RestsMayCome group drawn = (thrown : ℕ) → thrown < 34 → is_discard drawn.tiles drawn.melds thrown ≡ true → MayCome group (without_one drawn.tiles thrown)
+
+-- what holds where there are too many hands
+abbrev pub IfTooMany : ChancesFault → Type 0 → Type 0
+IfTooMany TooManyHands Holds = Holds
+IfTooMany Memory Holds = Unit {0}
+
+abbrev pub OnTooMany : {A : Type 0} → Result A ChancesFault → Type 0 → Type 0
+OnTooMany (Ok value) Holds = Unit {0}
+OnTooMany (Err fault) Holds = IfTooMany fault Holds
