@@ -4,6 +4,7 @@ pub mod ChanceLemmas
 pub mod ChancesLemmas
 pub mod CountedLemmas
 pub mod CountingLemmas
+pub mod FractionLemmas
 pub mod GraphLemmas
 pub mod LiveDraws
 pub mod NearestLemmas

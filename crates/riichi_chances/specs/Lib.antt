@@ -4,6 +4,7 @@ pub mod Bests
 pub mod Chances
 pub mod Counted
 pub mod Draws
+pub mod Fractions
 pub mod Graph
 pub mod Laws
 pub mod Numbers

@@ -17,6 +17,8 @@
 //! A call takes memory for its hands, some three kilobytes each, and refuses what may come to more of them than it is told
 //! ([`ChancesFault`]). It never tells another number, and it refuses nothing that comes to no more.
 //!
+//! A [`Fraction`] of such numbers is told in lowest terms, or in ten thousandths.
+//!
 //! So `234m45678p34s558s`, of 123 unseen tiles, is ready by the next draw in 20 of 123 cases, and wins by two draws in 165 of
 //! 15,006.
 #![tactic(auto)]
@@ -25,7 +27,9 @@ mod building;
 mod chances;
 mod counting;
 mod discards;
+mod divisor;
 mod fault;
+mod fraction;
 mod goal;
 mod graph;
 pub mod laws;
@@ -37,5 +41,6 @@ mod unseen;
 pub use chances::{Chances, chances_of};
 pub use discards::{DiscardChances, discard_chances};
 pub use fault::ChancesFault;
+pub use fraction::Fraction;
 pub use goal::Goal;
 pub use span::MOST_TURNS;

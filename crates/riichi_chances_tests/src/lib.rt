@@ -6,6 +6,8 @@
 #[cfg(test)]
 mod facts;
 #[cfg(test)]
+mod fractions;
+#[cfg(test)]
 mod hands;
 #[cfg(test)]
 mod worked;

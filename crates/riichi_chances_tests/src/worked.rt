@@ -5,7 +5,8 @@ ghost use Rattle.riichi_hand.specs.Hand.{is_thirteen, size};
 use crate::facts::same;
 use crate::hands::{hand, kind, size};
 use riichi_chances::{
-    Chances, ChancesFault, DiscardChances, Goal, MOST_TURNS, chances_of, discard_chances, laws,
+    Chances, ChancesFault, DiscardChances, Fraction, Goal, MOST_TURNS, chances_of,
+    discard_chances, laws,
 };
 use riichi_hand::ShapeRecord;
 use riichi_rows::FreshRows;
@@ -251,9 +252,13 @@ fn check(rt: &impl Abort, alloc: Global, row: &Row) -> Result<(), Fail> {
     Ok(())
 }
 
-/// The chance in ten thousandths, the nearest of them.
-fn rounded(reached: u128, all: u128) -> Option<u128> {
-    reached.checked_add(all / 20_000)?.checked_div(all / 10_000)
+/// The chance in ten thousandths.
+fn rounded(part: u128, whole: u128) -> Option<u16> {
+    if whole > 0 && part <= whole {
+        Some(Fraction { part, whole }.ten_thousandths())
+    } else {
+        None
+    }
 }
 
 #[test]
@@ -281,7 +286,7 @@ fn far_hands(rt: HostRuntime) -> Result<(), Fail> {
 }
 
 /// A discard, so many turns, and the chance to win by them in ten thousandths.
-type AfterDiscard = (&'static str, u8, u128);
+type AfterDiscard = (&'static str, u8, u16);
 
 const ONE_FROM_READY: [AfterDiscard; 6] = [
     ("6s", 6, 1030),
