@@ -49,5 +49,6 @@ with_digit part whole number rest count digit left more within are parts less = 
         let power = ap (λ n. part * 10 ^ n) one ∙ ap (λ n. part * n) (pow-suc 10 count) in
         let times = sym (mul_assoc part (10 ^ count) 10) in
         omega (arith, split, ten, parts, are.all, power, times)
+
     few : (10 * number + digit) * whole ≤ 10 ^ (count + 1) * whole
     few = omega (arith, all, mul-le-mul_right (10 ^ (count + 1)) within)

@@ -5,8 +5,8 @@ ghost use Rattle.riichi_hand.specs.Hand.{is_thirteen, size};
 use crate::facts::same;
 use crate::hands::{hand, kind, size};
 use riichi_chances::{
-    Chances, ChancesFault, DiscardChances, Fraction, Goal, MOST_TURNS, chances_of,
-    discard_chances, laws,
+    Chances, ChancesFault, DiscardChances, Fraction, Goal, MOST_TURNS, chances_of, discard_chances,
+    laws,
 };
 use riichi_hand::ShapeRecord;
 use riichi_rows::FreshRows;
