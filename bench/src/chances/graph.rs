@@ -72,7 +72,7 @@ impl Node {
         let least = if may_throw { own } else { 0 };
         let behind = |rests: &Vec<usize>| rests.iter().map(|&rest| rows[rest][left]).max().unwrap_or(0).max(least);
         let begun = match self.lack == goal as u8 + 1 {
-            true => self.live * all,
+            true => self.live * all.max(least),
             false => self.draws.iter().map(|(live, rests)| live * behind(rests)).sum(),
         };
         unseen.saturating_sub(self.live) * own + begun
