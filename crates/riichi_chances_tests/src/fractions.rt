@@ -1,4 +1,6 @@
 //! Chances in lowest terms and in ten thousandths.
+ghost use Rattle.std.specs.Prelude.{◌≡◌};
+
 use crate::facts::same;
 use riichi_chances::Fraction;
 
@@ -11,7 +13,10 @@ const WINS: Fraction = Fraction {
 const LARGEST: u128 = u128::MAX;
 
 /// A part of a whole.
-fn of(part: u128, whole: u128) -> Fraction {
+fn of(part: u128, whole: u128) -> Fraction
+    ensures part { result.part ≡ part }
+    ensures whole { result.whole ≡ whole }
+{
     Fraction { part, whole }
 }
 
