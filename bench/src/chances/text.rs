@@ -16,7 +16,7 @@ struct Counting {
 }
 
 /// What is counted: what is reached, and the most that any of the plays reaches that may throw what brings nearer. By hands alone that
-/// is a bound.
+/// is a bound, which is no greater than all draws.
 const ROWS: [(&str, Goal, Plays); 4] = [
     ("ready", Goal::Ready, Plays::Keeping),
     ("win", Goal::Win, Plays::Keeping),
@@ -38,7 +38,8 @@ impl Counting {
         let mut graph = Graph::new();
         let place = graph.place(hand, known);
         let row = |(_, goal, plays)| {
-            turns.clone().map(|turns| graph.rows(goal, unseen(hand), turns, plays == Plays::Any)[place][turns]).collect()
+            let number = |turns| graph.rows(goal, unseen(hand), turns, plays == Plays::Any)[place][turns];
+            turns.clone().map(|turns| number(turns).min(all_draws(unseen(hand), turns))).collect()
         };
         ROWS.map(row).into()
     }

@@ -1,5 +1,5 @@
 -- The draws that lead there are no more than all.
-use Rattle.std.proofs.Common.{◌≡◌, ℕ, zero, suc, ◌+◌, ◌-◌, ◌*◌, ◌<◌, ◌≤◌, Bool, true, false, cond, List, refl, sym, ap, ◌∙◌, ⊎_elim, arith}
+use Rattle.std.proofs.Common.{◌≡◌, ℕ, zero, suc, ◌+◌, ◌-◌, ◌*◌, ◌<◌, ◌≤◌, Bool, true, false, cond, List, refl, ap, ◌∙◌, ⊎_elim, arith}
 use Rattle.std.proofs.lemmas.Bool.{cases_lt, leb-false, lt-ltb}
 use Rattle.std.specs.Prelude.{sum_by, ◌&&◌}
 use Rattle.std.specs.List.{filter}
@@ -18,10 +18,17 @@ use Rattle.riichi_chances.proofs.CountedLemmas.{AgreeOnLacked, AreSame, is_lacke
 use Rattle.riichi_chances.proofs.SumLemmas.{greatest_few}
 use Rattle.riichi_chances.proofs.SpanLemmas.{all_more, all_none}
 
-spread_most : (live after : ℕ → ℕ) (most a n : ℕ) → ((k : ℕ) → k < a + n → live k * after k ≤ live k * most) → spread (λ k. live k * after k) a n ≤ spread live a n * most
+pub spread_most : (live after : ℕ → ℕ) (most a n : ℕ) → ((k : ℕ) → k < a + n → live k * after k ≤ live k * most) → spread (λ k. live k * after k) a n ≤ spread live a n * most
 unfolding spread
 spread_most live after most a zero each = omega arith
 spread_most live after most a (suc n) each = omega (arith, each a (omega arith), spread_most live after most (a + 1) n (λ k low. each k (omega arith)))
+
+-- what has no live copies may be of any value
+pub with_some : (live a b : ℕ) → (0 < live → a ≤ b) → live * a ≤ live * b
+with_some live a b less = ⊎_elim (λ some. times_few live live a b (omega arith) (less some)) (λ none. no_live live (omega (arith, none))) (cases_lt 0 live)
+  where
+    no_live : (l : ℕ) → l ≡ 0 → l * a ≤ l * b
+    no_live l e = omega (arith, ap (λ m. m * a) e, ap (λ m. m * b) e)
 
 module _ (melds : List Meld) (melded : (kind : ℕ) → kind < 34 → tiles melds kind ≤ 4) where
   module _ (goal left : ℕ)
@@ -60,18 +67,14 @@ module _ (melds : List Meld) (melded : (kind : ℕ) → kind < 34 → tiles meld
     by_tests false false true e a b c here kept_few passed_few = absurd (cc)
 
     each_few : (kind : ℕ) → kind < 34 → copies kind * after kind ≤ copies kind * most
-    each_few kind inside = ⊎_elim some_live (λ none. no_live (copies kind) (after kind) most (omega (arith, none))) (cases_lt 0 (copies kind))
+    each_few kind inside = with_some (copies kind) (after kind) most some_live
       where
-        no_live : (l a b : ℕ) → l ≡ 0 → l * a ≤ l * b
-        no_live l a b e = let zeros : 0 * a ≡ 0 * b = omega arith in omega (arith, ap (λ m. m * a) e ∙ zeros ∙ sym (ap (λ m. m * b) e))
-
-        some_live : 0 < copies kind → copies kind * after kind ≤ copies kind * most
+        some_live : 0 < copies kind → after kind ≤ most
         some_live some =
-            let few = by_tests (is_there goal (parts_with (parts_of hand melds seen) kind)) (is_accepted hand melds seen kind) (is_lacked hand melds kind) (ap (λ t. t && is_lacked hand melds kind) (lt-ltb 0 (copies kind) some))
+            by_tests (is_there goal (parts_with (parts_of hand melds seen) kind)) (is_accepted hand melds seen kind) (is_lacked hand melds kind) (ap (λ t. t && is_lacked hand melds kind) (lt-ltb 0 (copies kind) some))
             (all_draws (unseen_of (parts_of hand melds seen) - 1) left) (best_rest (λ rest. draws goal rest left) (parts_with (parts_of hand melds seen) kind)) (draws goal (parts_passed (parts_of hand melds seen) kind) left)
             (omega (arith, ap (λ m. all_draws (m - 1) left) n_is)) (λ not nearer. kept kind inside some nearer not)
-            (λ alone. later hand (with_one seen kind) told (n - 1) (passed melds melded AreSame one_less_same hand seen told know kind inside alone) (one_fewer (unseen_of (parts_of hand melds (with_one seen kind))) (passed_unseen melds melded AreSame one_less_same hand seen told know kind inside some))) in
-            times_few (copies kind) (copies kind) (after kind) most (omega arith) few
+            (λ alone. later hand (with_one seen kind) told (n - 1) (passed melds melded AreSame one_less_same hand seen told know kind inside alone) (one_fewer (unseen_of (parts_of hand melds (with_one seen kind))) (passed_unseen melds melded AreSame one_less_same hand seen told know kind inside some)))
 
     pub sum_few : sum_by (λ kind. copies kind * after kind) every_kind ≤ n * most
     unfolding unseen_of

@@ -4,7 +4,7 @@ use Rattle.std.proofs.lemmas.Bool.{cases_eq}
 use Rattle.std.proofs.lemmas.List.{append-nil, drop_all, get_or-map, get_or_append_left, get_or_default, get_or_push, length-map, map_push, take_all, take_more}
 use Rattle.std.proofs.lemmas.List.Sums.{sum_by-set}
 use Rattle.std.specs.Option.{option_map}
-use Rattle.std.specs.Prelude.{slice_get, slice_index, slice_index_or}
+use Rattle.std.specs.Prelude.{min, slice_get, slice_index, slice_index_or}
 use Rattle.riichi_hand.specs.HandParts.{ShapeParts}
 use Rattle.riichi_shape.specs.Accepted.{with_one, without_one}
 use Rattle.riichi_shape.specs.Choosing.{LeavesLeast}
@@ -17,7 +17,7 @@ use Rattle.riichi_shape.proofs.Choices.{is_chosen}
 use Rattle.riichi_deeper.specs.Drawn.{parts_without}
 use Rattle.riichi_chances.specs.Chances.{AreAfter, AreAfterAtMost, AreAllCounted, AreAtMost, AreChances, AreCounted, AreAllTold, IsNoPlayAbove, IsNoPlayAboveAfter, IsTold, parts_told}
 use Rattle.riichi_chances.specs.Aims.{HasRows, counted_in, numbers_for}
-use Rattle.riichi_chances.specs.AtMost.{counted_most}
+use Rattle.riichi_chances.specs.AtMost.{most_of_all}
 use Rattle.riichi_chances.specs.Counted.{counted_draws, parts_less}
 use Rattle.riichi_chances.specs.Draws.{all_draws, draws, is_there, unseen_of}
 use Rattle.riichi_chances.specs.Graph.{AreBefore, AreLeft, AreRows, IsPlaceOf, discard_kinds, no_rows, placed_hand}
@@ -33,15 +33,15 @@ use Rattle.riichi_chances.proofs.ChanceLemmas.{chance_law}
 use Rattle.riichi_chances.proofs.CountedLemmas.{counted_law, discard_counted, discard_unseen, knows_left}
 use Rattle.riichi_chances.proofs.CountingLemmas.{best_listed, kinds_more}
 use Rattle.riichi_chances.proofs.NearestLemmas.{less_long, more_long}
-use Rattle.riichi_chances.proofs.PlayLemmas.{NoMore, counted_less, play_law, plays_few}
+use Rattle.riichi_chances.proofs.PlayLemmas.{NoMore, counted_less, play_law, plays_most}
 use Rattle.riichi_chances.proofs.RowLemmas.{not_won}
 use Rattle.riichi_chances.proofs.UnseenLemmas.{all_turns}
 
 pub record CountedBelow (parts : ShapeParts) (unseen count : ℕ) (chances : Chances) : Type 0 where
   pub ready : (k : ℕ) → k < count → slice_index chances.ready k ≡ counted_draws 1 parts unseen k
   pub win : (k : ℕ) → k < count → slice_index chances.win k ≡ counted_draws 0 parts unseen k
-  pub ready_at_most : (k : ℕ) → k < count → slice_index chances.ready_at_most k ≡ counted_most 1 parts unseen k
-  pub win_at_most : (k : ℕ) → k < count → slice_index chances.win_at_most k ≡ counted_most 0 parts unseen k
+  pub ready_at_most : (k : ℕ) → k < count → slice_index chances.ready_at_most k ≡ most_of_all 1 parts unseen k
+  pub win_at_most : (k : ℕ) → k < count → slice_index chances.win_at_most k ≡ most_of_all 0 parts unseen k
   pub all : (k : ℕ) → k < count → slice_index chances.all k ≡ all_draws unseen k
 
 pub none_below : (parts : ShapeParts) (unseen : ℕ) (chances : Chances) → CountedBelow parts unseen 0 chances
@@ -66,8 +66,8 @@ pub told_long : (turns : ℕ) (rows : Rows) (all : ℕ) (before after : Chances)
 told_long turns rows all before after told long = record {
   ready = ap length told.ready ∙ length-set before.ready turns (slice_index rows.ready turns) ∙ long.ready;
   win = ap length told.win ∙ length-set before.win turns (slice_index rows.win turns) ∙ long.win;
-  ready_at_most = ap length told.ready_at_most ∙ length-set before.ready_at_most turns (slice_index rows.ready_at_most turns) ∙ long.ready_at_most;
-  win_at_most = ap length told.win_at_most ∙ length-set before.win_at_most turns (slice_index rows.win_at_most turns) ∙ long.win_at_most;
+  ready_at_most = ap length told.ready_at_most ∙ length-set before.ready_at_most turns (min (slice_index rows.ready_at_most turns) all) ∙ long.ready_at_most;
+  win_at_most = ap length told.win_at_most ∙ length-set before.win_at_most turns (min (slice_index rows.win_at_most turns) all) ∙ long.win_at_most;
   all = ap length told.all ∙ length-set before.all turns all ∙ long.all;
 }
 
@@ -76,11 +76,17 @@ pub next_below : (parts : ShapeParts) (unseen n : ℕ) (before after : Chances) 
 next_below parts unseen n before after rows all small long so_far has g told = record {
   ready = put_next (counted_draws 1 parts unseen) before.ready after.ready n (slice_index rows.ready n) (omega (arith, long.ready, small)) so_far.ready (of_column Ready) told.ready;
   win = put_next (counted_draws 0 parts unseen) before.win after.win n (slice_index rows.win n) (omega (arith, long.win, small)) so_far.win (of_column Win) told.win;
-  ready_at_most = put_next (counted_most 1 parts unseen) before.ready_at_most after.ready_at_most n (slice_index rows.ready_at_most n) (omega (arith, long.ready_at_most, small)) so_far.ready_at_most (of_column ReadyAtMost) told.ready_at_most;
-  win_at_most = put_next (counted_most 0 parts unseen) before.win_at_most after.win_at_most n (slice_index rows.win_at_most n) (omega (arith, long.win_at_most, small)) so_far.win_at_most (of_column WinAtMost) told.win_at_most;
-  all = put_next (all_draws unseen) before.all after.all n all (omega (arith, long.all, small)) so_far.all (g ∙ ap (λ m. all_draws m n) (all_turns unseen n unseen refl)) told.all;
+  ready_at_most = put_next (most_of_all 1 parts unseen) before.ready_at_most after.ready_at_most n (min (slice_index rows.ready_at_most n) all) (omega (arith, long.ready_at_most, small)) so_far.ready_at_most (lesser (of_column ReadyAtMost)) told.ready_at_most;
+  win_at_most = put_next (most_of_all 0 parts unseen) before.win_at_most after.win_at_most n (min (slice_index rows.win_at_most n) all) (omega (arith, long.win_at_most, small)) so_far.win_at_most (lesser (of_column WinAtMost)) told.win_at_most;
+  all = put_next (all_draws unseen) before.all after.all n all (omega (arith, long.all, small)) so_far.all all_is told.all;
 }
   where
+    all_is : all ≡ all_draws unseen n
+    all_is = g ∙ ap (λ m. all_draws m n) (all_turns unseen n unseen refl)
+
+    lesser : {a b : ℕ} → a ≡ b → min a all ≡ min b (all_draws unseen n)
+    lesser {a} {b} e = ap (λ m. min m all) e ∙ ap (min b) all_is
+
     of_column : (column : Column) → slice_index (numbers_for column rows) n ≡ counted_in column parts unseen n
     of_column column = has column n (omega arith) ∙ ap (λ m. counted_in column parts m n) (all_turns unseen n unseen refl)
 
@@ -144,22 +150,25 @@ are_chances parts place unseen turns chances is law unseen_is are = record {
 
 pub are_at_most : (parts : ShapeParts) (unseen turns : ℕ) (chances : Chances) (n : ℕ) → unseen ≡ n → AreCounted parts unseen turns chances → AreAtMost parts n turns chances
 are_at_most parts unseen turns chances n unseen_is are = record {
-  ready = λ k low. are.ready_at_most k low ∙ ap (λ m. counted_most 1 parts m k) unseen_is;
-  win = λ k low. are.win_at_most k low ∙ ap (λ m. counted_most 0 parts m k) unseen_is;
+  ready = λ k low. are.ready_at_most k low ∙ ap (λ m. most_of_all 1 parts m k) unseen_is;
+  win = λ k low. are.win_at_most k low ∙ ap (λ m. most_of_all 0 parts m k) unseen_is;
 }
 
 -- no play has more
-pub no_play_above : (parts place : ShapeParts) (unseen turns : ℕ) (chances : Chances) → ((play : DrawPlay) (goal count : ℕ) → draws_by play [] goal parts count ≤ counted_most goal place unseen count) → AreCounted place unseen turns chances → IsNoPlayAbove parts turns chances
-no_play_above parts place unseen turns chances law are = record {
+pub no_play_above : (parts place : ShapeParts) (unseen turns : ℕ) (chances : Chances) → ((play : DrawPlay) (goal count : ℕ) → draws_by play [] goal parts count ≤ most_of_all goal place unseen count) → ((goal count : ℕ) → counted_draws goal place unseen count ≤ all_draws unseen count)
+    → AreCounted place unseen turns chances → IsNoPlayAbove parts turns chances
+no_play_above parts place unseen turns chances law few are = record {
   ready = λ play k low. omega (arith, are.ready_at_most k low, law play 1 k);
   win = λ play k low. omega (arith, are.win_at_most k low, law play 0 k);
-  ready_reached = λ k low. omega (arith, are.ready k low, are.ready_at_most k low, counted_less 1 k unseen place);
-  win_reached = λ k low. omega (arith, are.win k low, are.win_at_most k low, counted_less 0 k unseen place);
+  ready_reached = λ k low. omega (arith, are.ready k low, are.ready_at_most k low, counted_less 1 k unseen place, few 1 k);
+  win_reached = λ k low. omega (arith, are.win k low, are.win_at_most k low, counted_less 0 k unseen place, few 0 k);
 }
 
 pub thirteen_plays : (parts place : ShapeParts) (unseen turns : ℕ) (chances : Chances) → IsThirteen parts → place ≡ parts → unseen ≡ unseen_of parts → AreCounted place unseen turns chances → IsNoPlayAbove parts turns chances
 thirteen_plays parts place unseen turns chances is place_is unseen_is =
-    no_play_above parts place unseen turns chances (λ play goal count. omega (arith, play_law play goal parts count is, ap (λ (p : ShapeParts). counted_most goal p unseen count) place_is, ap (λ n. counted_most goal parts n count) unseen_is))
+    no_play_above parts place unseen turns chances
+    (λ play goal count. omega (arith, play_law play goal parts count is, ap (λ (p : ShapeParts). most_of_all goal p unseen count) place_is, ap (λ n. most_of_all goal parts n count) unseen_is))
+    (λ goal count. omega (arith, chance_law goal parts count is, counted_law goal parts count is, ap (λ (p : ShapeParts). counted_draws goal p unseen count) place_is, ap (λ n. counted_draws goal parts n count) unseen_is, ap (λ n. all_draws n count) unseen_is))
 
 pub of_thirteen : (parts place : ShapeParts) (unseen turns : ℕ) (chances : Chances) → IsThirteen parts → place ≡ parts → unseen ≡ unseen_of parts → AreCounted place unseen turns chances → AreChances parts turns chances
 of_thirteen parts place unseen turns chances is place_is unseen_is =
@@ -228,8 +237,15 @@ module _ (drawn : ShapeParts) (is : IsFourteen drawn) (far : 0 < distance_of dra
     plays_after : (unseen turns : ℕ) (chances : Chances) → unseen ≡ unseen_of drawn → AreCounted (parts_less drawn kind) unseen turns chances → IsNoPlayAbove (parts_without drawn kind) turns chances
     plays_after unseen turns chances unseen_is =
         no_play_above (parts_without drawn kind) (parts_less drawn kind) unseen turns chances
-        (λ play goal count. plays_few drawn.melds is.melded play goal count [] (without_one drawn.tiles kind) (with_one drawn.seen kind) drawn.seen unseen
+        (λ play goal count. plays_most drawn.melds is.melded play goal count [] (without_one drawn.tiles kind) (with_one drawn.seen kind) drawn.seen unseen
         (knows_left drawn.melds is.melded NoMore drawn.tiles drawn.seen drawn.seen is.each_kind is.each_seen is.each_seen is.fourteen far kind best.is_kind (is_chosen drawn.tiles drawn.melds kind best) (λ other small lacked. omega arith)) (unseen_is ∙ discard_unseen drawn is kind best.is_kind best.held))
+        (λ goal count. omega (
+          arith,
+          chance_law goal (parts_without drawn kind) count whole,
+          discard_counted goal count kind drawn is far best.is_kind (is_chosen drawn.tiles drawn.melds kind best),
+          ap (λ n. counted_draws goal (parts_less drawn kind) n count) unseen_is,
+          ap (λ n. all_draws n count) (unseen_is ∙ discard_unseen drawn is kind best.is_kind best.held),
+        ))
 
     most_after : (unseen turns : ℕ) (chances : Chances) → unseen ≡ unseen_of drawn → AreCounted (parts_less drawn kind) unseen turns chances → AreAtMost (parts_told drawn kind) (unseen_of (parts_without drawn kind)) turns chances
     most_after unseen turns chances unseen_is are =

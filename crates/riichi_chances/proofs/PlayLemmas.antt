@@ -16,17 +16,19 @@ use Rattle.riichi_shape.specs.Discards.{is_best, is_discard}
 use Rattle.riichi_shape.specs.EveryWinning.{distance_of}
 use Rattle.riichi_shape.specs.LiveCopies.{live_in}
 use Rattle.riichi_deeper.specs.Drawn.{parts_with, parts_without}
-use Rattle.riichi_chances.specs.AtMost.{accepted_most, counted_most, most_by, most_with}
+use Rattle.riichi_chances.specs.AtMost.{accepted_most, counted_most, most_by, most_of_all, most_with}
 use Rattle.riichi_chances.specs.Counted.{accepted_draws, accepts, counted_by, counted_draws, counted_rest, counted_with, parts_less}
 use Rattle.riichi_chances.specs.Draws.{all_draws, greatest, is_there, parts_passed, unseen_of}
 use Rattle.riichi_chances.specs.Laws.{MostLaw, PlayLaw}
 use Rattle.riichi_chances.specs.Plays.{DrawPlay, draws_by, parts_chosen, parts_played, played_behind}
 use Rattle.riichi_chances.proofs.BoundLemmas.{times_few}
+use Rattle.riichi_chances.proofs.ChanceLemmas.{chance_law, spread_most, with_some}
 use Rattle.riichi_chances.proofs.CountedLemmas.{KnowsLacked, accepted_sum, counted_law, is_lacked, no_nearer, parts_of, passed_unseen, thrown_left, thrown_unseen}
 use Rattle.riichi_chances.proofs.CountingLemmas.{far_with, near_with}
 use Rattle.riichi_chances.proofs.LiveDraws.{passed_live}
 use Rattle.riichi_chances.proofs.NearestLemmas.{more_long}
 use Rattle.riichi_chances.proofs.RowLemmas.{greatest_some}
+use Rattle.riichi_chances.proofs.SpanLemmas.{all_more, all_none}
 
 -- ---- fewer live copies move weight from the greater number to the lesser
 
@@ -64,6 +66,36 @@ one_less_few a b few = omega (arith, few)
 held_inside : (hand : List ℕ) (kind : ℕ) → length hand ≡ 34 → 0 < slice_index hand kind → kind < 34
 held_inside hand kind long held = ⊎_elim (λ low. low) (λ past. absurd (omega (arith, held, get_or_past hand kind 0 (omega (arith, long, past))))) (cases_lt kind 34)
 
+held_then : (hand : List ℕ) (melds : List Meld) (thrown : ℕ) → length hand ≡ 34 → is_discard hand melds thrown ≡ true → thrown < 34
+held_then hand melds thrown long best = held_inside hand thrown long (ltb-true 0 (slice_index hand thrown) (and_parts (has_tile hand thrown) (is_best hand melds thrown) best).0)
+
+-- ---- what is left once a tile was drawn, where the draws of what is left are bounded
+
+module _ (melds : List Meld) (melded : (kind : ℕ) → kind < 34 → tiles melds kind ≤ 4) (play : DrawPlay) (goal left : ℕ) (bound : List ℕ → List ℕ → ℕ → ℕ)
+    (later : (drawn hand seen told : List ℕ) (n : ℕ) → KnowsLacked NoMore hand melds seen told → n ≡ unseen_of (parts_of hand melds seen) → draws_by play drawn goal (parts_of hand melds seen) left ≤ bound told hand n)
+    (drawn hand seen told : List ℕ) (know : KnowsLacked NoMore hand melds seen told) (n : ℕ) (n_is : n ≡ unseen_of (parts_of hand melds seen)) (kind : ℕ) (inside : kind < 34) (some : 0 < live_of hand melds seen kind) where
+  one_fewer : (m : ℕ) → unseen_of (parts_of hand melds seen) ≡ m + 1 → n - 1 ≡ m
+  one_fewer m e = omega (arith, n_is, e)
+
+  -- a tile that is thrown has fewer live copies then
+  thrown_at_once : KnowsLacked NoMore hand melds (with_one seen kind) told
+  thrown_at_once = record {
+    long = know.long;
+    seen_long = more_long seen kind know.seen_long;
+    told_long = know.told_long;
+    thirteen = know.thirteen;
+    alike = λ other low lacked. omega (arith, know.alike other low lacked, passed_live hand melds seen kind (omega (arith, know.seen_long, inside)) some other);
+  }
+
+  passed_bound : draws_by play (kind ∷ drawn) goal (parts_passed (parts_of hand melds seen) kind) left ≤ bound told hand (n - 1)
+  passed_bound = later (kind ∷ drawn) hand (with_one seen kind) told (n - 1) thrown_at_once (one_fewer (unseen_of (parts_passed (parts_of hand melds seen) kind)) (passed_unseen melds melded NoMore one_less_few hand seen told know kind inside some))
+
+  kept_bound : is_lacked hand melds kind ≡ true → 0 < distance_of (with_one hand kind) melds → (thrown : ℕ) → thrown < 34 → is_discard (with_one hand kind) melds thrown ≡ true
+      → draws_by play (kind ∷ drawn) goal (parts_without (parts_with (parts_of hand melds seen) kind) thrown) left ≤ bound told (without_one (with_one hand kind) thrown) (n - 1)
+  kept_bound nearer far thrown low best =
+      later (kind ∷ drawn) (without_one (with_one hand kind) thrown) (with_one seen thrown) told (n - 1) (thrown_left melds melded NoMore one_less_few hand seen told know kind inside some nearer far thrown low best)
+      (one_fewer (unseen_of (parts_without (parts_with (parts_of hand melds seen) kind) thrown)) (thrown_unseen melds melded NoMore one_less_few hand seen told know kind inside some nearer far thrown low best))
+
 module _ (melds : List Meld) (melded : (kind : ℕ) → kind < 34 → tiles melds kind ≤ 4) (play : DrawPlay) (goal left : ℕ)
     (later : (drawn hand seen told : List ℕ) (n : ℕ) → KnowsLacked NoMore hand melds seen told → n ≡ unseen_of (parts_of hand melds seen) → draws_by play drawn goal (parts_of hand melds seen) left ≤ counted_most goal (parts_of hand melds told) n left)
     (drawn hand seen told : List ℕ) (know : KnowsLacked NoMore hand melds seen told) (n : ℕ) (n_is : n ≡ unseen_of (parts_of hand melds seen)) (far : is_there goal (parts_of hand melds seen) ≡ false) where
@@ -91,23 +123,13 @@ module _ (melds : List Meld) (melded : (kind : ℕ) → kind < 34 → tiles meld
   abbrev after : ℕ → ℕ
   after kind = played_behind goal left (by kind) play drawn parts kind
 
-  one_fewer : (m : ℕ) → unseen_of parts ≡ m + 1 → n - 1 ≡ m
-  one_fewer m e = omega (arith, n_is, e)
+  abbrev bound : List ℕ → List ℕ → ℕ → ℕ
+  bound account rest m = counted_most goal (parts_of rest melds account) m left
 
   module _ (kind : ℕ) (inside : kind < 34) where
     module _ (some : 0 < copies kind) where
-      -- a tile that is thrown has fewer live copies then
-      thrown_at_once : KnowsLacked NoMore hand melds (with_one seen kind) told
-      thrown_at_once = record {
-        long = know.long;
-        seen_long = more_long seen kind know.seen_long;
-        told_long = know.told_long;
-        thirteen = know.thirteen;
-        alike = λ other low lacked. omega (arith, know.alike other low lacked, passed_live hand melds seen kind (omega (arith, know.seen_long, inside)) some other);
-      }
-
       passed_few : by kind (parts_passed parts kind) ≤ common
-      passed_few = later (kind ∷ drawn) hand (with_one seen kind) told (n - 1) thrown_at_once (one_fewer (unseen_of (parts_passed parts kind)) (passed_unseen melds melded NoMore one_less_few hand seen told know kind inside some))
+      passed_few = passed_bound melds melded play goal left bound later drawn hand seen told know n n_is kind inside some
 
       module _ (nearer : is_lacked hand melds kind ≡ true) where
         there_few : is_there goal (parts_with parts kind) ≡ true → all_draws (unseen_of parts - 1) left ≤ most kind
@@ -117,14 +139,11 @@ module _ (melds : List Meld) (melded : (kind : ℕ) → kind < 34 → tiles meld
           kept_few : (thrown : ℕ) → is_discard (with_one hand kind) melds thrown ≡ true → by kind (parts_without (parts_with parts kind) thrown) ≤ most kind
           unfolding counted_rest
           kept_few thrown best =
-              let held = ltb-true 0 (slice_index (with_one hand kind) thrown) (and_parts (has_tile (with_one hand kind) thrown) (is_best (with_one hand kind) melds thrown) best).0 in
-              let low = held_inside (with_one hand kind) thrown (more_long hand kind know.long) held in
+              let low = held_then (with_one hand kind) melds thrown (more_long hand kind know.long) best in
               let not_there : 0 < distance_of (with_one hand kind) melds = omega (arith, leb-false (distance_of (with_one hand kind) melds) goal not) in
-              let rest = later (kind ∷ drawn) (without_one (with_one hand kind) thrown) (with_one seen thrown) told (n - 1) (thrown_left melds melded NoMore one_less_few hand seen told know kind inside some nearer not_there thrown low best)
-              (one_fewer (unseen_of (parts_without (parts_with parts kind) thrown)) (thrown_unseen melds melded NoMore one_less_few hand seen told know kind inside some nearer not_there thrown low best)) in
               omega (
                 arith,
-                rest,
+                kept_bound melds melded play goal left bound later drawn hand seen told know n n_is kind inside some nearer not_there thrown low best,
                 far_with goal (n - 1) left value (parts_with (parts_of hand melds told) kind) not,
                 greatest_some (λ k. value (parts_less (parts_with (parts_of hand melds told) kind) k)) (filter (is_discard (with_one hand kind) melds) every_kind) thrown (in-filter (is_discard (with_one hand kind) melds) thrown every_kind (in-range 34 0 thrown (omega arith) (omega (arith, low))) best),
               )
@@ -164,10 +183,7 @@ module _ (melds : List Meld) (melded : (kind : ℕ) → kind < 34 → tiles meld
           by_tests false true e f = absurd (cc)
 
     with_live : (a b : ℕ) → (0 < copies kind → a ≤ b) → copies kind * a ≤ copies kind * b
-    with_live a b less = ⊎_elim (λ some. times_few (copies kind) (copies kind) a b (omega arith) (less some)) (λ none. no_live (copies kind) (omega (arith, none))) (cases_lt 0 (copies kind))
-      where
-        no_live : (l : ℕ) → l ≡ 0 → l * a ≤ l * b
-        no_live l e = omega (arith, ap (λ m. m * a) e, ap (λ m. m * b) e)
+    with_live = with_some (copies kind)
 
     fewer : is_lacked hand melds kind ≡ true → copies kind ≤ many kind
     fewer lacked = know.alike kind inside lacked
@@ -213,9 +229,81 @@ module _ (melds : List Meld) (melded : (kind : ℕ) → kind < 34 → tiles meld
       by_test true here there = here
       by_test false here there = there refl
 
+-- ---- no play has more than all draws
+
+module _ (melds : List Meld) (melded : (kind : ℕ) → kind < 34 → tiles melds kind ≤ 4) (play : DrawPlay) (goal left : ℕ)
+    (later : (drawn hand seen told : List ℕ) (n : ℕ) → KnowsLacked NoMore hand melds seen told → n ≡ unseen_of (parts_of hand melds seen) → draws_by play drawn goal (parts_of hand melds seen) left ≤ all_draws n left)
+    (drawn hand seen told : List ℕ) (know : KnowsLacked NoMore hand melds seen told) (n : ℕ) (n_is : n ≡ unseen_of (parts_of hand melds seen)) where
+  module _ (kind : ℕ) (inside : kind < 34) (some : 0 < live_of hand melds seen kind) where
+    abbrev first_parts : ShapeParts
+    first_parts = parts_of hand melds seen
+
+    abbrev rest_draws : ShapeParts → ℕ
+    rest_draws rest = draws_by play (kind ∷ drawn) goal rest left
+
+    abbrev all_bound : List ℕ → List ℕ → ℕ → ℕ
+    all_bound account rest m = all_draws m left
+
+    passed_all : rest_draws (parts_passed first_parts kind) ≤ all_draws (n - 1) left
+    passed_all = passed_bound melds melded play goal left all_bound later drawn hand seen told know n n_is kind inside some
+
+    module _ (nearer : is_lacked hand melds kind ≡ true) (not : is_there goal (parts_with first_parts kind) ≡ false) where
+      chosen_all : (choice : Option ℕ) → rest_draws (parts_chosen choice first_parts kind) ≤ all_draws (n - 1) left
+      chosen_all None = passed_all
+      chosen_all (Some thrown) = by_test (is_discard (with_one hand kind) melds thrown) kept
+        where
+          kept : is_discard (with_one hand kind) melds thrown ≡ true → rest_draws (parts_without (parts_with first_parts kind) thrown) ≤ all_draws (n - 1) left
+          kept best =
+              let not_there : 0 < distance_of (with_one hand kind) melds = omega (arith, leb-false (distance_of (with_one hand kind) melds) goal not) in
+              kept_bound melds melded play goal left all_bound later drawn hand seen told know n n_is kind inside some nearer not_there thrown (held_then (with_one hand kind) melds thrown (more_long hand kind know.long) best) best
+
+          by_test : (t : Bool) → (t ≡ true → rest_draws (parts_without (parts_with first_parts kind) thrown) ≤ all_draws (n - 1) left) → rest_draws (cond t (parts_without (parts_with first_parts kind) thrown) (parts_passed first_parts kind)) ≤ all_draws (n - 1) left
+          by_test true here = here refl
+          by_test false here = passed_all
+
+    after_all : played_behind goal left rest_draws play drawn first_parts kind ≤ all_draws (n - 1) left
+    after_all = by_tests (is_there goal (parts_with first_parts kind)) (is_accepted hand melds seen kind) (λ is. (and_parts (nat_lt 0 (live_of hand melds seen kind)) (is_lacked hand melds kind) is).1) chosen_all
+      where
+        by_tests : (t u : Bool) → (u ≡ true → is_lacked hand melds kind ≡ true) → (is_lacked hand melds kind ≡ true → t ≡ false → (choice : Option ℕ) → rest_draws (parts_chosen choice first_parts kind) ≤ all_draws (n - 1) left)
+            → cond t (all_draws (unseen_of first_parts - 1) left) (rest_draws (cond u (parts_chosen (play drawn kind) first_parts kind) (parts_passed first_parts kind))) ≤ all_draws (n - 1) left
+        by_tests true u lacked chosen = omega (arith, ap (λ m. all_draws (m - 1) left) n_is)
+        by_tests false true lacked chosen = chosen (lacked refl) refl (play drawn kind)
+        by_tests false false lacked chosen = passed_all
+
+  one_turn_all : sum_by (λ kind. live_of hand melds seen kind * played_behind goal left (λ rest. draws_by play (kind ∷ drawn) goal rest left) play drawn (parts_of hand melds seen) kind) every_kind ≤ n * all_draws (n - 1) left
+  unfolding unseen_of
+  one_turn_all =
+      let live = live_of hand melds seen in
+      let after = λ (kind : ℕ). played_behind goal left (λ rest. draws_by play (kind ∷ drawn) goal rest left) play drawn (parts_of hand melds seen) kind in
+      omega (
+        arith,
+        sum_range (λ kind. live kind * after kind) 0 34,
+        sum_range live 0 34,
+        spread_most live after (all_draws (n - 1) left) 0 34 (λ k low. with_some (live k) (after k) (all_draws (n - 1) left) (λ some. after_all k (omega (arith, low)) some)),
+        ap (λ m. m * all_draws (n - 1) left) (n_is ∙ sum_range live 0 34),
+      )
+
+module _ (melds : List Meld) (melded : (kind : ℕ) → kind < 34 → tiles melds kind ≤ 4) (play : DrawPlay) (goal : ℕ) where
+  pub plays_all : (turns : ℕ) (drawn hand seen told : List ℕ) (n : ℕ) → KnowsLacked NoMore hand melds seen told → n ≡ unseen_of (parts_of hand melds seen) → draws_by play drawn goal (parts_of hand melds seen) turns ≤ all_draws n turns
+  unfolding draws_by
+  plays_all zero drawn hand seen told n know n_is = by_test (is_there goal (parts_of hand melds seen)) (all_none n)
+    where
+      by_test : {m : ℕ} (t : Bool) → m ≡ 1 → cond t 1 0 ≤ m
+      by_test true e = omega (arith, e)
+      by_test false e = omega arith
+  plays_all (suc left) drawn hand seen told n know n_is =
+      by_test (is_there goal (parts_of hand melds seen)) (omega (arith, ap (λ m. all_draws m (suc left)) n_is)) (omega (arith, all_more n left, one_turn_all melds melded play goal left (plays_all left) drawn hand seen told know n n_is))
+    where
+      by_test : {a b m : ℕ} (t : Bool) → a ≤ m → b ≤ m → cond t a b ≤ m
+      by_test true here there = here
+      by_test false here there = there
+
+  pub plays_most : (turns : ℕ) (drawn hand seen told : List ℕ) (n : ℕ) → KnowsLacked NoMore hand melds seen told → n ≡ unseen_of (parts_of hand melds seen) → draws_by play drawn goal (parts_of hand melds seen) turns ≤ most_of_all goal (parts_of hand melds told) n turns
+  plays_most turns drawn hand seen told n know n_is = omega (arith, plays_few melds melded play goal turns drawn hand seen told n know n_is, plays_all turns drawn hand seen told n know n_is)
+
 pub play_law : PlayLaw
 play_law play goal parts turns is =
-    plays_few parts.melds is.melded play goal turns [] parts.tiles parts.seen parts.seen (unseen_of parts) (record { long = is.each_kind; seen_long = is.each_seen; told_long = is.each_seen; thirteen = is.thirteen; alike = λ kind low lacked. omega arith }) refl
+    plays_most parts.melds is.melded play goal turns [] parts.tiles parts.seen parts.seen (unseen_of parts) (record { long = is.each_kind; seen_long = is.each_seen; told_long = is.each_seen; thirteen = is.thirteen; alike = λ kind low lacked. omega arith }) refl
 
 -- ---- the draws that are reached
 
@@ -259,4 +347,4 @@ counted_less goal (suc left) unseen parts = by_test (is_there goal parts)
     by_test false less = less
 
 pub most_law : MostLaw
-most_law goal parts turns is = omega (arith, counted_law goal parts turns is, counted_less goal turns (unseen_of parts) parts)
+most_law goal parts turns is = omega (arith, counted_law goal parts turns is, counted_less goal turns (unseen_of parts) parts, chance_law goal parts turns is)

@@ -1,7 +1,7 @@
 -- The chances of a hand for each number of turns.
-use Rattle.std.specs.Prelude.{◌≡◌, ℕ, ◌<◌, ◌≤◌, if◌then◌else◌, List, [], length, slice_index, slice_index_or, slice_set}
+use Rattle.std.specs.Prelude.{◌≡◌, ℕ, ◌<◌, ◌≤◌, min, if◌then◌else◌, List, [], length, slice_index, slice_index_or, slice_set}
 use Rattle.riichi_hand.specs.HandParts.{ShapeParts}
-use Rattle.riichi_chances.specs.AtMost.{counted_most}
+use Rattle.riichi_chances.specs.AtMost.{most_of_all}
 use Rattle.riichi_chances.specs.Counted.{counted_draws, parts_less}
 use Rattle.riichi_chances.specs.Draws.{all_draws, draws, is_there, unseen_of}
 use Rattle.riichi_chances.specs.Plays.{DrawPlay, draws_by}
@@ -35,14 +35,14 @@ pub record AreChances (parts : ShapeParts) (turns : ℕ) (chances : Chances) : T
 pub record AreCounted (parts : ShapeParts) (unseen turns : ℕ) (chances : Chances) : Type 0 where
   pub ready : (count : ℕ) → count ≤ turns → slice_index chances.ready count ≡ counted_draws 1 parts unseen count
   pub win : (count : ℕ) → count ≤ turns → slice_index chances.win count ≡ counted_draws 0 parts unseen count
-  pub ready_at_most : (count : ℕ) → count ≤ turns → slice_index chances.ready_at_most count ≡ counted_most 1 parts unseen count
-  pub win_at_most : (count : ℕ) → count ≤ turns → slice_index chances.win_at_most count ≡ counted_most 0 parts unseen count
+  pub ready_at_most : (count : ℕ) → count ≤ turns → slice_index chances.ready_at_most count ≡ most_of_all 1 parts unseen count
+  pub win_at_most : (count : ℕ) → count ≤ turns → slice_index chances.win_at_most count ≡ most_of_all 0 parts unseen count
   pub all : (count : ℕ) → count ≤ turns → slice_index chances.all count ≡ all_draws unseen count
 
 -- the upper ends by the hand, the turns and how many tiles are unseen
 pub record AreAtMost (parts : ShapeParts) (unseen turns : ℕ) (chances : Chances) : Type 0 where
-  pub ready : (count : ℕ) → count ≤ turns → slice_index chances.ready_at_most count ≡ counted_most 1 parts unseen count
-  pub win : (count : ℕ) → count ≤ turns → slice_index chances.win_at_most count ≡ counted_most 0 parts unseen count
+  pub ready : (count : ℕ) → count ≤ turns → slice_index chances.ready_at_most count ≡ most_of_all 1 parts unseen count
+  pub win : (count : ℕ) → count ≤ turns → slice_index chances.win_at_most count ≡ most_of_all 0 parts unseen count
 
 -- no play that keeps only what brings the hand nearer has more draws than the upper ends
 pub record IsNoPlayAbove (parts : ShapeParts) (turns : ℕ) (chances : Chances) : Type 0 where
@@ -72,8 +72,8 @@ IsNoPlayAboveAfter parts turns each = (place : ℕ) (one : DiscardChances) → p
 pub record IsTold (turns : ℕ) (rows : Rows) (number : ℕ) (before after : Chances) : Type 0 where
   pub ready : after.ready ≡ slice_set before.ready turns (slice_index rows.ready turns)
   pub win : after.win ≡ slice_set before.win turns (slice_index rows.win turns)
-  pub ready_at_most : after.ready_at_most ≡ slice_set before.ready_at_most turns (slice_index rows.ready_at_most turns)
-  pub win_at_most : after.win_at_most ≡ slice_set before.win_at_most turns (slice_index rows.win_at_most turns)
+  pub ready_at_most : after.ready_at_most ≡ slice_set before.ready_at_most turns (min (slice_index rows.ready_at_most turns) number)
+  pub win_at_most : after.win_at_most ≡ slice_set before.win_at_most turns (min (slice_index rows.win_at_most turns) number)
   pub all : after.all ≡ slice_set before.all turns number
 
 -- the same for the hands at some places

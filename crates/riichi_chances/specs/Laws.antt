@@ -3,7 +3,7 @@ use Rattle.std.specs.Prelude.{◌≡◌, ℕ, ◌<◌, ◌≤◌, [], length}
 use Rattle.riichi_hand.specs.Hand.{size}
 use Rattle.riichi_hand.specs.HandParts.{ShapeParts}
 use Rattle.riichi_tiles.specs.Melds.{tiles}
-use Rattle.riichi_chances.specs.AtMost.{counted_most}
+use Rattle.riichi_chances.specs.AtMost.{most_of_all}
 use Rattle.riichi_chances.specs.Counted.{counted_draws}
 use Rattle.riichi_chances.specs.Draws.{all_draws, draws, unseen_of}
 use Rattle.riichi_chances.specs.Plays.{DrawPlay, draws_by}
@@ -32,8 +32,8 @@ ChanceLaw = (goal : ℕ) (parts : ShapeParts) (turns : ℕ) → IsThirteen parts
 
 -- no play of those that keep only what brings the hand nearer brings it there in more draws than the upper end
 abbrev pub PlayLaw : Type 0
-PlayLaw = (play : DrawPlay) (goal : ℕ) (parts : ShapeParts) (turns : ℕ) → IsThirteen parts → draws_by play [] goal parts turns ≤ counted_most goal parts (unseen_of parts) turns
+PlayLaw = (play : DrawPlay) (goal : ℕ) (parts : ShapeParts) (turns : ℕ) → IsThirteen parts → draws_by play [] goal parts turns ≤ most_of_all goal parts (unseen_of parts) turns
 
 -- nor does the play that the draws are counted by
 abbrev pub MostLaw : Type 0
-MostLaw = (goal : ℕ) (parts : ShapeParts) (turns : ℕ) → IsThirteen parts → draws goal parts turns ≤ counted_most goal parts (unseen_of parts) turns
+MostLaw = (goal : ℕ) (parts : ShapeParts) (turns : ℕ) → IsThirteen parts → draws goal parts turns ≤ most_of_all goal parts (unseen_of parts) turns

@@ -51,9 +51,7 @@ impl Chances {
             Goal::Win => &self.win_at_most,
         }
     }
-}
 
-impl Chances {
     /// Tells those of one number of turns.
     fn tell(&mut self, turns: u8, rows: &Rows, all: u128)
         requires { turns ≤ 18 }
@@ -62,8 +60,8 @@ impl Chances {
         let place = turns as usize;
         self.ready[place] = rows.ready[place];
         self.win[place] = rows.win[place];
-        self.ready_at_most[place] = rows.ready_at_most[place];
-        self.win_at_most[place] = rows.win_at_most[place];
+        self.ready_at_most[place] = rows.ready_at_most[place].min(all);
+        self.win_at_most[place] = rows.win_at_most[place].min(all);
         self.all[place] = all;
     }
 }

@@ -379,6 +379,23 @@ fn what_throwing_gains(rt: HostRuntime) -> Result<(), Fail> {
     Ok(())
 }
 
+/// All but the four 2p and the four 5p are seen, for which the hand waits. So it wins by each draw, and no play has more than all.
+const WAITS_UNSEEN: &str =
+    "111222333444555666777888999m113334446666777788889999p111122223333444455556666777788889999s1111222233334444555566667777z";
+
+#[test]
+fn no_more_than_all_draws(rt: HostRuntime) -> Result<(), Fail> {
+    let asked = hand("123456789m1134p", &[], WAITS_UNSEEN)?;
+    if size(&asked) != 13 {
+        return Err(Fail::from("not thirteen tiles"));
+    }
+    let told = one_in_two(rt.alloc(), &asked, 1).map_err(refused)?;
+    same(&rt, told.all[3], 336);
+    same(&rt, told.win[3], 336);
+    same(&rt, told.win_at_most[3], 336);
+    Ok(())
+}
+
 /// A hand that may come to more hands than are looked at is refused by that name.
 #[test]
 fn few_hands(rt: HostRuntime) -> Result<(), Fail> {
