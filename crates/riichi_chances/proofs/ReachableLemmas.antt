@@ -171,7 +171,7 @@ module _ (group : HandGroup) (graph : Graph) (is : IsGraph group.root graph) (fi
 pub within_drawn : (group : HandGroup) (parts drawn : ShapeParts) (before after : Graph) → drawn.melds ≡ parts.melds → drawn.seen ≡ parts.seen → IsWithin group parts before → All (MayCome group) after.hands.keys → IsWithin group drawn after
 within_drawn group parts drawn before after melds_are seen_is inside each = record { melds = inside.melds ∙ sym melds_are; seen = inside.seen ∙ sym seen_is; each = each }
 
-pub rests_come : (group : HandGroup) (parts drawn : ShapeParts) (graph : Graph) (kind place : ℕ) → IsWithin group parts graph → 1 < distance_of parts.tiles parts.melds → kind < 34 → is_accepted parts.tiles parts.melds parts.seen kind ≡ true → place ≡ kind → drawn ≡ parts_with parts place → MayCome group parts.tiles → RestsMayCome group drawn
+pub rests_come : (group : HandGroup) (parts drawn : ShapeParts) (graph : Graph) (kind place : ℕ) → IsWithin group parts graph → 1 < distance_of parts.tiles parts.melds → kind < 34 → is_accepted parts.tiles parts.melds parts.seen kind ≡ true → place ≡ kind → drawn ≡ parts_with parts place → MayCome group parts.tiles → RestsMayCome drawn group
 rests_come group parts drawn graph kind place inside far low accepted place_is drawn_is come thrown small best =
     subst (λ (tiles : List ℕ). MayCome group (without_one tiles thrown)) (sym (ap (λ (p : ShapeParts). p.tiles) as_drawn)) (ByStep parts.tiles kind thrown come (record {
       far = omega (arith, far, ap (distance_of parts.tiles) inside.melds);
@@ -205,7 +205,7 @@ pub on_ok_as : {A E P Q : Type 0} (result : Result A E) → (P → Q) → OnOk r
 on_ok_as (Ok value) told it = told it
 on_ok_as (Err fault) told it = it
 
-pub rest_comes : (group : HandGroup) (drawn rest : ShapeParts) (kind : ℕ) → rest ≡ parts_less drawn kind → LeavesLeast drawn.tiles drawn.melds kind → RestsMayCome group drawn → MayCome group rest.tiles
+pub rest_comes : (group : HandGroup) (drawn rest : ShapeParts) (kind : ℕ) → rest ≡ parts_less drawn kind → LeavesLeast drawn.tiles drawn.melds kind → RestsMayCome drawn group → MayCome group rest.tiles
 rest_comes group drawn rest kind rest_is best come = subst (MayCome group) (sym (ap (λ (p : ShapeParts). p.tiles) rest_is)) (come kind best.is_kind (is_chosen drawn.tiles drawn.melds kind best))
 
 -- ---- a hand by itself, and the hands that discards leave
@@ -234,7 +234,7 @@ together_few drawn graph places discards most is before discards_is left = comes
     (λ hand first. places_in graph.hands.keys places hand (λ k low. omega (arith, before k low, is.each))
     (subst (λ (hands : List (List ℕ)). IsIn hand hands) (sym (left ∙ ap (λ (ds : List Discard). map (without_one drawn.tiles) (discard_kinds ds)) discards_is)) (in-Contains hand (together drawn).firsts first))) most
 
-pub together_come : (drawn : ShapeParts) → RestsMayCome (together drawn) drawn
+pub together_come : (drawn : ShapeParts) → RestsMayCome drawn (together drawn)
 together_come drawn thrown low best =
     AtFirst (without_one drawn.tiles thrown) (Contains-in (without_one drawn.tiles thrown) (map (without_one drawn.tiles) (discard_kinds (discards_of drawn.tiles drawn.melds drawn.seen))) (in-map (without_one drawn.tiles) thrown (discard_kinds (discards_of drawn.tiles drawn.melds drawn.seen)) (best_in drawn thrown low best)))
 

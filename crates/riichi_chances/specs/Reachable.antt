@@ -1,5 +1,5 @@
 -- Which hands a hand may come to, and how many they are.
-use Rattle.std.specs.Prelude.{◌≡◌, ℕ, ◌<◌, ◌≤◌, true, nat_eq, if◌then◌else◌, List, [], ◌∷◌, length, map, All, Contains, Result, Ok, Err}
+use Rattle.std.specs.Prelude.{◌≡◌, ℕ, ◌<◌, ◌≤◌, true, nat_eq, if◌then◌else◌, List, [], ◌∷◌, length, map, All, Contains, OnOk, Result, Ok, Err}
 use Rattle.std.specs.Cmp.Lexicographic.{pointwise}
 use Rattle.std.specs.List.{IsDistinct}
 use Rattle.riichi_hand.specs.HandParts.{ShapeParts}
@@ -64,9 +64,13 @@ pub record IsWithin (group : HandGroup) (parts : ShapeParts) (graph : Graph) : T
   pub seen : group.root.seen ≡ parts.seen
   pub each : All (MayCome group) graph.hands.keys
 
+-- a hand may be come to
+abbrev pub HandMayCome : ShapeParts → HandGroup → Type 0
+HandMayCome parts group = MayCome group parts.tiles
+
 -- what the best discards leave may be come to
-abbrev pub RestsMayCome : HandGroup → ShapeParts → Type 0
-RestsMayCome group drawn = (thrown : ℕ) → thrown < 34 → is_discard drawn.tiles drawn.melds thrown ≡ true → MayCome group (without_one drawn.tiles thrown)
+abbrev pub RestsMayCome : ShapeParts → HandGroup → Type 0
+RestsMayCome drawn group = (thrown : ℕ) → thrown < 34 → is_discard drawn.tiles drawn.melds thrown ≡ true → MayCome group (without_one drawn.tiles thrown)
 
 -- what holds where there are too many hands
 abbrev pub IfTooMany : ChancesFault → Type 0 → Type 0
@@ -76,3 +80,11 @@ IfTooMany Memory Holds = Unit {0}
 abbrev pub OnTooMany : {A : Type 0} → Result A ChancesFault → Type 0 → Type 0
 OnTooMany (Ok value) Holds = Unit {0}
 OnTooMany (Err fault) Holds = IfTooMany fault Holds
+
+-- where a group may come to what is asked, none of its hands is taken that it may not come to
+abbrev pub StaysWithin : {A E : Type 0} → (ShapeParts → HandGroup → Type 0) → ShapeParts → Graph → Graph → Result A E → Type 0
+StaysWithin MayBe parts before after result = (group : HandGroup) → IsWithin group parts before → MayBe parts group → OnOk result (All (MayCome group) after.hands.keys)
+
+-- and too many are told only where the group comes to more
+abbrev pub RefusesMore : {A : Type 0} → (ShapeParts → HandGroup → Type 0) → ShapeParts → Graph → Result A ChancesFault → Type 0
+RefusesMore MayBe parts before result = (group : HandGroup) → IsWithin group parts before → MayBe parts group → OnTooMany result (ComesToMore before.most_hands group)

@@ -1,11 +1,11 @@
 //! The hands that a hand may come to, by what each accepts.
-ghost use Rattle.std.specs.Prelude.{◌≡◌, ◌<◌, ◌++◌, [], ◌∷◌, All, IfOk, OnOk, length};
+ghost use Rattle.std.specs.Prelude.{◌≡◌, ◌<◌, ◌++◌, [], ◌∷◌, IfOk, OnOk, length};
 ghost use Rattle.riichi_shape.specs.Accepted.{accepted_of};
 ghost use Rattle.riichi_shape.specs.Discards.{discards_of};
 ghost use Rattle.riichi_shape.specs.EveryWinning.{distance_of};
 ghost use Rattle.riichi_chances.specs.Graph as spec;
 ghost use Rattle.riichi_chances.specs.Laws.{IsFourteen, IsThirteen};
-ghost use Rattle.riichi_chances.specs.Reachable.{ComesToMore, HandGroup, IsWithin, MayCome, OnTooMany, RestsMayCome};
+ghost use Rattle.riichi_chances.specs.Reachable.{HandMayCome, RefusesMore, RestsMayCome, StaysWithin};
 
 use crate::fault::ChancesFault;
 use crate::goal::is_ready;
@@ -28,11 +28,8 @@ pub(crate) fn place_of<R: RowSource>(
     requires graph { spec.IsGraph asked.now graph.old }
     ensures grows { OnOk result (spec.Grows asked.now graph.old graph.new) }
     ensures place { IfOk result (spec.IsPlaceOf graph.new asked.now) }
-    ensures within { (group : HandGroup) → IsWithin group asked.now graph.old
-        → MayCome group asked.now.tiles → OnOk result (All (MayCome group) graph.new.hands.keys) }
-    ensures many { (group : HandGroup) → IsWithin group asked.now graph.old
-        → MayCome group asked.now.tiles
-        → OnTooMany result (ComesToMore graph.old.most_hands group) }
+    ensures within { StaysWithin HandMayCome asked.now graph.old graph.new result }
+    ensures many { RefusesMore HandMayCome asked.now graph.old result }
     ensures stays { source.new ≡ source.old }
 {
     if let Some(place) = graph.known(asked) {
@@ -54,11 +51,8 @@ fn node_of<R: RowSource>(
     ensures grows { OnOk result (spec.Grows asked.now graph.old graph.new) }
     ensures node { IfOk result
         (spec.IsNode graph.new.hands.keys (length graph.new.nodes.items) asked.now) }
-    ensures within { (group : HandGroup) → IsWithin group asked.now graph.old
-        → MayCome group asked.now.tiles → OnOk result (All (MayCome group) graph.new.hands.keys) }
-    ensures many { (group : HandGroup) → IsWithin group asked.now graph.old
-        → MayCome group asked.now.tiles
-        → OnTooMany result (ComesToMore graph.old.most_hands group) }
+    ensures within { StaysWithin HandMayCome asked.now graph.old graph.new result }
+    ensures many { RefusesMore HandMayCome asked.now graph.old result }
     ensures stays { source.new ≡ source.old }
 {
     let answer = shape_with(source, asked);
@@ -101,11 +95,8 @@ fn draws_of<R: RowSource>(
         (λ draws. spec.LeadBefore (length graph.new.nodes.items) draws.items) }
     ensures leads { IfOk result
         (λ draws. spec.LeadTo graph.new.hands.keys draws.items asked.now) }
-    ensures within { (group : HandGroup) → IsWithin group asked.now graph.old
-        → MayCome group asked.now.tiles → OnOk result (All (MayCome group) graph.new.hands.keys) }
-    ensures many { (group : HandGroup) → IsWithin group asked.now graph.old
-        → MayCome group asked.now.tiles
-        → OnTooMany result (ComesToMore graph.old.most_hands group) }
+    ensures within { StaysWithin HandMayCome asked.now graph.old graph.new result }
+    ensures many { RefusesMore HandMayCome asked.now graph.old result }
     ensures stays { source.new ≡ source.old }
 {
     let mut draws = Vec::new(graph.alloc);
@@ -136,10 +127,8 @@ fn rests_of<R: RowSource>(
         (λ rests. spec.AreBefore (length graph.new.nodes.items) rests.items) }
     ensures rests { IfOk result
         (λ rests. spec.AreRests graph.new.hands.keys rests.items drawn.now) }
-    ensures within { (group : HandGroup) → IsWithin group drawn.now graph.old
-        → RestsMayCome group drawn.now → OnOk result (All (MayCome group) graph.new.hands.keys) }
-    ensures many { (group : HandGroup) → IsWithin group drawn.now graph.old
-        → RestsMayCome group drawn.now → OnTooMany result (ComesToMore graph.old.most_hands group) }
+    ensures within { StaysWithin RestsMayCome drawn.now graph.old graph.new result }
+    ensures many { RefusesMore RestsMayCome drawn.now graph.old result }
     ensures stays { source.new ≡ source.old }
 {
     let answer = shape_with(source, drawn);
@@ -167,10 +156,8 @@ pub(crate) fn places_of<R: RowSource>(
         (λ rests. spec.AreBefore (length graph.new.nodes.items) rests.items) }
     ensures left { IfOk result (λ rests. spec.AreLeft
         graph.new.hands.keys rests.items drawn.now.tiles (spec.discard_kinds discards.now)) }
-    ensures within { (group : HandGroup) → IsWithin group drawn.now graph.old
-        → RestsMayCome group drawn.now → OnOk result (All (MayCome group) graph.new.hands.keys) }
-    ensures many { (group : HandGroup) → IsWithin group drawn.now graph.old
-        → RestsMayCome group drawn.now → OnTooMany result (ComesToMore graph.old.most_hands group) }
+    ensures within { StaysWithin RestsMayCome drawn.now graph.old graph.new result }
+    ensures many { RefusesMore RestsMayCome drawn.now graph.old result }
     ensures stays { source.new ≡ source.old }
 {
     let mut places = Vec::new(graph.alloc);

@@ -1,8 +1,8 @@
 //! The hands that a hand may come to, each once.
-ghost use Rattle.std.specs.Prelude.{◌≡◌, [], All, IfNone, IfOk, IfSome, OnOk, length};
+ghost use Rattle.std.specs.Prelude.{◌≡◌, [], IfNone, IfOk, IfSome, OnOk, length};
 ghost use Rattle.riichi_hand.specs.HandParts.{ShapeParts};
 ghost use Rattle.riichi_chances.specs.Graph as spec;
-ghost use Rattle.riichi_chances.specs.Reachable.{ComesToMore, HandGroup, IsWithin, MayCome, OnTooMany};
+ghost use Rattle.riichi_chances.specs.Reachable.{ComesToMore, HandGroup, HandMayCome, IsWithin, MayCome, RefusesMore, StaysWithin};
 
 use crate::fault::ChancesFault;
 use indexmap::IndexSet;
@@ -63,12 +63,8 @@ impl Graph {
         requires node { spec.IsNode self.old.hands.keys (length self.old.nodes.items) asked.now node }
         ensures grows { OnOk result (spec.Grows asked.now self.old self.new) }
         ensures place { IfOk result (spec.IsPlaceOf self.new asked.now) }
-        ensures within { (group : HandGroup) → IsWithin group asked.now self.old
-            → MayCome group asked.now.tiles
-            → OnOk result (All (MayCome group) self.new.hands.keys) }
-        ensures many { (group : HandGroup) → IsWithin group asked.now self.old
-            → MayCome group asked.now.tiles
-            → OnTooMany result (ComesToMore self.old.most_hands group) }
+        ensures within { StaysWithin HandMayCome asked.now self.old self.new result }
+        ensures many { RefusesMore HandMayCome asked.now self.old result }
     {
         match self.take(asked, node)? {
             Some(place) => Ok(place),
@@ -83,9 +79,7 @@ impl Graph {
         ensures grows { IfOk result (λ place. IfSome place
             (λ _. spec.Grows asked.now self.old self.new)) }
         ensures place { IfOk result (λ place. IfSome place (spec.IsPlaceOf self.new asked.now)) }
-        ensures within { (group : HandGroup) → IsWithin group asked.now self.old
-            → MayCome group asked.now.tiles
-            → OnOk result (All (MayCome group) self.new.hands.keys) }
+        ensures within { StaysWithin HandMayCome asked.now self.old self.new result }
         ensures many { (group : HandGroup) → IsWithin group asked.now self.old
             → MayCome group asked.now.tiles
             → IfOk result (λ place. IfNone place (ComesToMore self.old.most_hands group)) }

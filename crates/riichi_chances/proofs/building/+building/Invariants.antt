@@ -35,6 +35,6 @@ abbrev pub invariant-places_of-loop-at : goal.invariant-places_of-loop-at
 invariant-places_of-loop-at g l = record {
   stays : l.source ≡ l.fn.source;
   grows : Grows l.drawn l.fn.graph l.graph;
-  within : (group : HandGroup) → IsWithin group l.drawn l.fn.graph → RestsMayCome group l.drawn → All (MayCome group) l.graph.hands.keys;
+  within : (group : HandGroup) → IsWithin group l.drawn l.fn.graph → RestsMayCome l.drawn group → All (MayCome group) l.graph.hands.keys;
   so_far : RestsSoFar l.drawn l.discards l.graph l.places.items l.at;
 }
