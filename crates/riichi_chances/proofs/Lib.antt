@@ -8,6 +8,7 @@ pub mod FractionLemmas
 pub mod GraphLemmas
 pub mod LiveDraws
 pub mod NearestLemmas
+pub mod OddsLemmas
 pub mod PlayLemmas
 pub mod ReachableLemmas
 pub mod RowLemmas

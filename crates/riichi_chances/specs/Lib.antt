@@ -8,5 +8,6 @@ pub mod Fractions
 pub mod Graph
 pub mod Laws
 pub mod Numbers
+pub mod Odds
 pub mod Plays
 pub mod Reachable

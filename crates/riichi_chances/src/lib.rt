@@ -17,7 +17,7 @@
 //! A call takes memory for its hands, some three kilobytes each, and refuses what may come to more of them than it is told
 //! ([`ChancesFault`]). It never tells another number, and it refuses nothing that comes to no more.
 //!
-//! A [`Fraction`] of such numbers is told in lowest terms, or in ten thousandths.
+//! [`Chances::at`] are those of one number of turns, [`Odds`]. A [`Fraction`] of such numbers is told in lowest terms, or in ten thousandths.
 //!
 //! So `234m45678p34s558s`, of 123 unseen tiles, is ready by the next draw in 20 of 123 cases, and wins by two draws in 165 of
 //! 15,006.
@@ -33,6 +33,7 @@ mod fraction;
 mod goal;
 mod graph;
 pub mod laws;
+mod odds;
 mod rows;
 mod span;
 mod tiles;
@@ -43,4 +44,5 @@ pub use discards::{DiscardChances, discard_chances};
 pub use fault::ChancesFault;
 pub use fraction::Fraction;
 pub use goal::Goal;
+pub use odds::Odds;
 pub use span::MOST_TURNS;

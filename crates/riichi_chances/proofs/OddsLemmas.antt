@@ -1,0 +1,43 @@
+-- The chances of one number of turns, by those of all.
+use Rattle.std.proofs.Common.{◌≡◌, ℕ, suc, ◌<◌, List, [], ◌∷◌, length, map, refl, ap, ◌∙◌, arith}
+use Rattle.std.specs.Prelude.{slice_index_or}
+use Rattle.riichi_hand.specs.HandParts.{ShapeParts}
+use Rattle.riichi_shape.specs.Discards.{discards_of}
+use Rattle.riichi_deeper.specs.Drawn.{parts_without}
+use Rattle.riichi_chances.specs.Chances.{AreAfter, AreAfterAtMost, AreAtMost, AreChances, parts_told}
+use Rattle.riichi_chances.specs.Draws.{unseen_of}
+use Rattle.riichi_chances.specs.Graph.{discard_kinds}
+use Rattle.riichi_chances.specs.Odds.{all_odds_after, each_odds_at, odds_after, odds_at, odds_by, odds_of}
+use Rattle.riichi_chances.specs.declared.chances.Chances.{Chances}
+use Rattle.riichi_chances.specs.declared.discards.DiscardChances.{DiscardChances}
+use Rattle.riichi_chances.specs.declared.odds.Odds.{Odds}
+
+abbrev odds_from : ℕ → ℕ → ℕ → ℕ → ℕ → Odds
+odds_from ready ready_at_most win win_at_most all = record { ready = ready; ready_at_most = ready_at_most; win = win; win_at_most = win_at_most; all = all }
+
+same_odds : {f g h i j k l m n o : ℕ} → f ≡ k → g ≡ l → h ≡ m → i ≡ n → j ≡ o → odds_from f g h i j ≡ odds_from k l m n o
+same_odds p q r s t = cc
+
+by_chances : (parts told : ShapeParts) (turns : ℕ) (chances : Chances) → AreChances parts turns chances → AreAtMost told (unseen_of parts) turns chances → odds_at chances turns ≡ odds_by parts told turns
+by_chances parts told turns chances are most =
+    same_odds (are.ready turns (omega arith)) (most.ready turns (omega arith)) (are.win turns (omega arith)) (most.win turns (omega arith)) (are.all turns (omega arith))
+
+pub thirteen_odds : (parts : ShapeParts) (turns : ℕ) (chances : Chances) → AreChances parts turns chances → AreAtMost parts (unseen_of parts) turns chances → odds_at chances turns ≡ odds_of parts turns
+unfolding odds_of
+thirteen_odds parts = by_chances parts parts
+
+same_each : (each : List DiscardChances) (kinds : List ℕ) (value : DiscardChances → Odds) (wanted : ℕ → Odds) → map (λ (one : DiscardChances). one.kind) each ≡ kinds → ((place : ℕ) (one : DiscardChances) → place < length each → value (slice_index_or each place one) ≡ wanted (slice_index_or each place one).kind) → map value each ≡ map wanted kinds
+same_each [] [] value wanted e same = refl
+same_each [] (kind ∷ kinds) value wanted e same = absurd (cc)
+same_each (one ∷ each) [] value wanted e same = absurd (cc)
+same_each (one ∷ each) (kind ∷ kinds) value wanted e same =
+    let here : one.kind ≡ kind = cc in
+    let others : map (λ (it : DiscardChances). it.kind) each ≡ kinds = cc in
+    ap (λ (first : Odds). first ∷ map value each) (same 0 one (omega arith) ∙ ap wanted here) ∙ ap (λ (rest : List Odds). wanted kind ∷ rest) (same_each each kinds value wanted others (λ place it low. same (suc place) it (omega (arith, low))))
+
+-- after each best discard of fourteen tiles
+pub fourteen_odds : (drawn : ShapeParts) (turns : ℕ) (each : List DiscardChances) → map (λ (one : DiscardChances). one.kind) each ≡ discard_kinds (discards_of drawn.tiles drawn.melds drawn.seen) → AreAfter drawn turns each → AreAfterAtMost drawn turns each → each_odds_at each turns ≡ all_odds_after drawn turns
+unfolding odds_after
+fourteen_odds drawn turns each kinds are most =
+    same_each each (discard_kinds (discards_of drawn.tiles drawn.melds drawn.seen)) (λ (one : DiscardChances). odds_at one.chances turns) (odds_after drawn turns) kinds
+    (λ place one low. by_chances (parts_without drawn (slice_index_or each place one).kind) (parts_told drawn (slice_index_or each place one).kind) turns (slice_index_or each place one).chances (are place one low) (most place one low))

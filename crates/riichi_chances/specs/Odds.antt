@@ -1,0 +1,46 @@
+-- The chances of one number of turns.
+use Rattle.std.specs.Prelude.{ℕ, List, map, slice_index}
+use Rattle.riichi_hand.specs.HandParts.{ShapeParts}
+use Rattle.riichi_shape.specs.Discards.{discards_of}
+use Rattle.riichi_deeper.specs.Drawn.{parts_without}
+use Rattle.riichi_chances.specs.AtMost.{most_of_all}
+use Rattle.riichi_chances.specs.Chances.{parts_told}
+use Rattle.riichi_chances.specs.Draws.{all_draws, draws, unseen_of}
+use Rattle.riichi_chances.specs.Graph.{discard_kinds}
+use Rattle.riichi_chances.specs.declared.chances.Chances.{Chances}
+use Rattle.riichi_chances.specs.declared.discards.DiscardChances.{DiscardChances}
+use Rattle.riichi_chances.specs.declared.odds.Odds.{Odds}
+
+abbrev pub odds_at : Chances → ℕ → Odds
+odds_at chances turns = record {
+  ready = slice_index chances.ready turns;
+  ready_at_most = slice_index chances.ready_at_most turns;
+  win = slice_index chances.win turns;
+  win_at_most = slice_index chances.win_at_most turns;
+  all = slice_index chances.all turns;
+}
+
+-- of a hand, whose upper ends are told by another that sees no more of what it accepts
+abbrev pub odds_by : ShapeParts → ShapeParts → ℕ → Odds
+odds_by parts told turns = record {
+  ready = draws 1 parts turns;
+  ready_at_most = most_of_all 1 told (unseen_of parts) turns;
+  win = draws 0 parts turns;
+  win_at_most = most_of_all 0 told (unseen_of parts) turns;
+  all = all_draws (unseen_of parts) turns;
+}
+
+-- of thirteen tiles
+unfoldable pub odds_of : ShapeParts → ℕ → Odds
+odds_of parts turns = odds_by parts parts turns
+
+-- once a tile of fourteen was thrown
+unfoldable pub odds_after : ShapeParts → ℕ → ℕ → Odds
+odds_after drawn turns kind = odds_by (parts_without drawn kind) (parts_told drawn kind) turns
+
+-- of each best discard of fourteen tiles
+abbrev pub all_odds_after : ShapeParts → ℕ → List Odds
+all_odds_after drawn turns = map (odds_after drawn turns) (discard_kinds (discards_of drawn.tiles drawn.melds drawn.seen))
+
+abbrev pub each_odds_at : List DiscardChances → ℕ → List Odds
+each_odds_at each turns = map (λ one. odds_at one.chances turns) each
