@@ -1,9 +1,10 @@
 -- What a common divisor leaves of a part and its whole, and the digits of a part.
-use Rattle.std.proofs.Common.{◌≡◌, ℕ, suc, ◌+◌, ◌*◌, ◌/◌, ◌^◌, ◌<◌, ◌≤◌, ap, subst, sym, ◌∙◌, arith}
-use Rattle.std.proofs.Math.Nat.{add-mul, div-mul_cancel, dvd_of_mul-dvd-mul_right, le_of_mul-le-mul_right, mul_assoc, mul-dvd-mul_right, mul-le-mul_right, one-dvd, pos_of_dvd_of_pos, pow-suc}
+use Rattle.std.proofs.Common.{◌≡◌, ℕ, zero, suc, ◌+◌, ◌-◌, ◌*◌, ◌/◌, ◌%◌, ◌^◌, ◌<◌, ◌≤◌, refl, ap, subst, sym, ◌∙◌, arith}
+use Rattle.std.proofs.Math.Nat.{add-mul, div-eq_of_lt-le, div-mul_cancel, dvd_of_mul-dvd-mul_right, le_of_mul-le-mul_right, mod-lt, mul_assoc, mul-dvd-mul_right, mul-le-mul_right, one-dvd, pos_of_dvd_of_pos, pow-suc}
+use Rattle.std.proofs.lemmas.Nat.Gcd.{IsGcd-from_mod, IsGcd-from_zero, same_from_IsGcd}
 use Rattle.std.specs.Int.{IsGcd}
 use Prim.Native.Nat.{◌∣◌}
-use Rattle.riichi_chances.specs.Fractions.{IsReduced}
+use Rattle.riichi_chances.specs.Fractions.{IsNearest, IsReduced, divided_by, divisor_within, greatest_divisor, in_lowest_terms, nearest}
 use Rattle.riichi_chances.specs.declared.fraction.Fraction.{Fraction}
 
 pub is_more : (part whole divisor : ℕ) → IsGcd part whole divisor → 0 < whole → 0 < divisor
@@ -52,3 +53,39 @@ with_digit part whole number rest count digit left more within are parts less = 
 
     few : (10 * number + digit) * whole ≤ 10 ^ (count + 1) * whole
     few = omega (arith, all, mul-le-mul_right (10 ^ (count + 1)) within)
+
+-- ---- as values
+
+divides_both : (steps one other : ℕ) → other < steps → IsGcd one other (divisor_within steps one other)
+divides_both zero one other more = absurd (omega (arith, more))
+divides_both (suc steps) one zero more = IsGcd-from_zero one 0 refl
+divides_both (suc steps) one (suc other) more =
+    IsGcd-from_mod one (suc other) (divisor_within steps (suc other) (one % suc other)) (divides_both steps (suc other) (one % suc other) (omega (arith, mod-lt one {m = suc other} (omega arith), more)))
+
+pub lowest_is : (given : Fraction) (divisor : ℕ) → IsGcd given.part given.whole divisor → divided_by given divisor ≡ in_lowest_terms given
+unfolding in_lowest_terms greatest_divisor
+lowest_is given divisor is = ap (divided_by given) (same_from_IsGcd given.part given.whole divisor (greatest_divisor given.part given.whole) is (divides_both (suc given.whole) given.part given.whole (omega arith)))
+
+pub nearest_is : (given : Fraction) (number : ℕ) → IsNearest given number → number ≡ nearest given
+unfolding nearest
+nearest_is given number is = sym (div-eq_of_lt-le (2 * given.whole) (omega (arith, is.not_above, over number)) (omega (arith, is.not_below, over (number + 1))))
+  where
+    over : (n : ℕ) → n * (2 * given.whole) ≡ 2 * n * given.whole
+    over n = omega arith
+
+-- four digits, and the next number where what is left is a half or more
+module _ (given : Fraction) (number rest count : ℕ) (four : count ≡ 4) (are : AreDigits given.part given.whole number rest count) where
+  all : number * given.whole + rest ≡ 10000 * given.part
+  all = omega (arith, are.all, ap (λ n. given.part * 10 ^ n) four)
+
+  twice : (n : ℕ) → 2 * n * given.whole ≡ 2 * (n * given.whole)
+  twice n = omega arith
+
+  pub rounded_down : rest < given.whole - rest → number ≡ nearest given
+  rounded_down less = nearest_is given number (record { not_above = omega (arith, all, twice number); not_below = omega (arith, all, twice number, less) })
+
+  pub rounded_up : given.whole - rest ≤ rest → number + 1 ≡ nearest given
+  rounded_up more = nearest_is given (number + 1) (record { not_above = omega (arith, all, twice (number + 1), more, are.less, next); not_below = omega (arith, all, twice (number + 1), are.less, next) })
+    where
+      next : (number + 1) * given.whole ≡ number * given.whole + given.whole
+      next = omega arith

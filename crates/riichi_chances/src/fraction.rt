@@ -15,7 +15,8 @@ impl Fraction {
     /// The same in lowest terms.
     pub fn reduced(self) -> Fraction
         requires { 0 < self.whole }
-        ensures { spec.IsReduced self result }
+        ensures value { result ≡ spec.in_lowest_terms self }
+        ensures reduced { spec.IsReduced self result }
     {
         let divisor = common_divisor(self.part, self.whole);
         Fraction {
@@ -28,7 +29,9 @@ impl Fraction {
     pub fn ten_thousandths(self) -> u16
         requires part { self.part ≤ self.whole }
         requires some { 0 < self.whole }
-        ensures { spec.IsNearest self result }
+        ensures value { result ≡ spec.nearest self }
+        ensures nearest { spec.IsNearest self result }
+        ensures few { result ≤ 10000 }
     {
         let mut number = (self.part / self.whole) as u16;
         let mut rest = self.part % self.whole;

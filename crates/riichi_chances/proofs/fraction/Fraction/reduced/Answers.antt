@@ -1,4 +1,4 @@
-use Rattle.riichi_chances.proofs.FractionLemmas.{is_more, reduced}
+use Rattle.riichi_chances.proofs.FractionLemmas.{is_more, lowest_is, reduced}
 use Rattle.riichi_chances.proofs.fraction.Fraction.reduced.Goals as goal
 
 pub nonzero_div-result : goal.nonzero_div-result
@@ -7,5 +7,8 @@ nonzero_div-result c = is_more c.args.self.part c.args.self.whole c.common_divis
 pub nonzero_div-result-2 : goal.nonzero_div-result-2
 nonzero_div-result-2 c = is_more c.args.self.part c.args.self.whole c.common_divisor-divisor.result c.common_divisor-divisor.ensures c.requires
 
-pub returns : goal.returns
-returns c = reduced c.args.self c.common_divisor-divisor.result c.requires c.common_divisor-divisor.ensures
+pub returns-clause-value : goal.returns-clause-value
+returns-clause-value c = lowest_is c.args.self c.common_divisor-divisor.result c.common_divisor-divisor.ensures
+
+pub returns-clause-reduced : goal.returns-clause-reduced
+returns-clause-reduced c = reduced c.args.self c.common_divisor-divisor.result c.requires c.common_divisor-divisor.ensures
