@@ -1,0 +1,2 @@
+pub mod FractionTexts
+pub mod OddsTexts

@@ -1,0 +1,56 @@
+-- The texts of the chances of one number of turns.
+use Rattle.std.specs.Prelude.{ℕ, ◌<◌, ◌≤◌, List, ◌++◌, codes, decimal}
+use Rattle.riichi_chances.specs.Fractions.{in_lowest_terms}
+use Rattle.riichi_chances.specs.declared.fraction.Fraction.{Fraction}
+use Rattle.riichi_chances.specs.declared.odds.Odds.{Odds}
+use Rattle.riichi_chances_text.specs.FractionTexts.{decimal_text, fraction_text}
+
+-- they are parts of some draws
+pub record ArePartsOfAll (odds : Odds) : Type 0 where
+  pub ready : odds.ready ≤ odds.all
+  pub ready_at_most : odds.ready_at_most ≤ odds.all
+  pub win : odds.win ≤ odds.all
+  pub win_at_most : odds.win_at_most ≤ odds.all
+  pub some : 0 < odds.all
+
+abbrev pub part_of : ℕ → Odds → Fraction
+part_of part odds = record { part = part; whole = odds.all }
+
+-- ---- behind a text
+
+abbrev pub end_text : List ℕ → Fraction → List ℕ
+end_text name given = codes " " ++ name ++ codes " " ++ fraction_text given
+
+-- what is reached, and what can be reached at most
+abbrev pub odds_text : Odds → List ℕ
+odds_text odds =
+    end_text (codes "ready") (part_of odds.ready odds) ++ end_text (codes "most") (part_of odds.ready_at_most odds)
+    ++ end_text (codes "win") (part_of odds.win odds) ++ end_text (codes "most") (part_of odds.win_at_most odds)
+
+-- ---- as members of an object
+
+-- a part of a whole: two numbers that may be too great for programs, and what they come to
+abbrev pub fraction_json : Fraction → List ℕ
+fraction_json given =
+    codes "{\"part\":\"" ++ decimal (in_lowest_terms given).part ++ codes "\",\"whole\":\"" ++ decimal (in_lowest_terms given).whole ++ codes "\",\"chance\":" ++ decimal_text given ++ codes "}"
+
+unfoldable pub member_json : List ℕ → Fraction → List ℕ
+member_json name given = name ++ fraction_json given
+
+abbrev pub odds_members : Odds → List ℕ
+odds_members odds =
+    member_json (codes "\"ready\":") (part_of odds.ready odds) ++ member_json (codes ",\"ready_at_most\":") (part_of odds.ready_at_most odds)
+    ++ member_json (codes ",\"win\":") (part_of odds.win odds) ++ member_json (codes ",\"win_at_most\":") (part_of odds.win_at_most odds)
+
+-- ---- in words
+
+-- `ready in 0.1626 of all draws, 0.1626 at most; won in 0.0110 of all draws, 0.0110 at most`
+abbrev pub decimal_words : Fraction → List ℕ → List ℕ
+decimal_words given behind = decimal_text given ++ behind
+
+abbrev pub both_words : List ℕ → Fraction → Fraction → List ℕ
+both_words name given most = name ++ decimal_words given (codes " of all draws, ") ++ decimal_words most (codes " at most")
+
+abbrev pub odds_words : Odds → List ℕ
+odds_words odds =
+    both_words (codes "ready in ") (part_of odds.ready odds) (part_of odds.ready_at_most odds) ++ both_words (codes "; won in ") (part_of odds.win odds) (part_of odds.win_at_most odds)

@@ -1,0 +1,18 @@
+//! Chances as text.
+//!
+//! [`push_fraction`] writes a part of a whole in lowest terms, and to four digits, as `55/5002 0.0110`. [`push_odds`] writes the
+//! chances of one number of turns behind a text, to be ready and to win, each with its upper end; [`push_odds_members`] writes them as
+//! members of an object of JSON, and [`push_odds_words`] in words.
+//!
+//! No call takes memory.
+#![tactic(auto)]
+
+mod fraction;
+mod members;
+mod odds;
+mod words;
+
+pub use fraction::{MOST_DECIMAL, MOST_FRACTION, push_decimal, push_fraction};
+pub use members::{MOST_ODDS_MEMBERS, push_odds_members};
+pub use odds::{MOST_ODDS, push_odds};
+pub use words::{MOST_ODDS_WORDS, push_odds_words};
