@@ -10,4 +10,5 @@ mod fractions;
 #[cfg(test)]
 mod hands;
 #[cfg(test)]
+mod texts;
 mod worked;
