@@ -3,6 +3,7 @@
 from __future__ import annotations
 
 import asyncio
+import gc
 import time
 from typing import Any
 
@@ -52,6 +53,7 @@ class Hall:
 
     def open(self) -> None:
         """Begins to take requests."""
+        _set_aside()
         self._writer.start()
         self._telling = asyncio.create_task(self._tell())
 
@@ -86,6 +88,8 @@ class Hall:
                 event = {**views.head(state, state.books[key]), "deals": [changed[number] for number in sorted(changed)]}
                 self.streams.tell(topic(key.table), written("changed", event))
         if news.with_sessions:
+            if state.open_session() is None:
+                _set_aside()
             self._with_sessions = True
             self._unshown.update(self.fixed.tables)
             if self._showing is None or self._showing.done():
@@ -151,3 +155,11 @@ class Hall:
             self._ranked = {"players": players, "provisional": provisional, "fault": fault}
             self._ranked_state, self._ranked_at = state, time.monotonic()
             return self._ranked
+
+
+def _set_aside() -> None:
+    """Sets all objects aside that stay, so that no look for cycles goes through them while deals are handed in: of a large hall it takes
+    so long that all phones would wait for it. Called where the hall opens, and where its sessions changed and none is open."""
+    gc.unfreeze()
+    gc.collect()
+    gc.freeze()
