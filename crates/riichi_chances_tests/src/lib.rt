@@ -1,4 +1,4 @@
-//! Tests of `riichi_chances`: worked hands, as fractions that plain Rust found over the definition.
+//! Tests of `riichi_chances` and its texts: worked hands, as fractions that plain Rust found over the definition.
 //!
 //! They stand apart from the library, since a check of a crate with its tests proves the crate once more.
 #![tactic(auto)]
@@ -11,4 +11,5 @@ mod fractions;
 mod hands;
 #[cfg(test)]
 mod texts;
+#[cfg(test)]
 mod worked;
