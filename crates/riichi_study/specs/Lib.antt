@@ -6,6 +6,7 @@ pub mod Lines
 pub mod Prospects
 pub mod Findings
 pub mod SafeTexts
+pub mod ChanceTexts
 pub mod Texts
 pub mod SafeReasons
 pub mod Reasons

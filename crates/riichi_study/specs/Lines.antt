@@ -16,14 +16,14 @@ use Rattle.riichi_safe.specs.SafeParts.{SafeParts}
 use Rattle.riichi_study.specs.declared.key.StudyKey.{StudyKey}
 use Rattle.riichi_study.specs.declared.key.StudyKey.TheVariants as keys
 use Rattle.riichi_study.specs.declared.name.StudyName.{StudyName}
-use Rattle.riichi_study.specs.declared.name.StudyName.TheVariants.{Shape, Calls, Safe}
+use Rattle.riichi_study.specs.declared.name.StudyName.TheVariants.{Shape, Calls, Safe, Chances}
 use Rattle.riichi_study.specs.declared.order.Order.{Order}
 use Rattle.riichi_study.specs.declared.order.Order.TheVariants.{Live}
 use Rattle.riichi_study.specs.declared.study.Study.{Study}
 use Rattle.riichi_study.specs.declared.study.Study.TheVariants as asks
 use Rattle.riichi_study.specs.CallParts.{CallParts}
 use Rattle.riichi_study.specs.Records.{call_record_of}
-use Rattle.riichi_study.specs.Values.{order_of, thrower_of, tile_named, tiles_named}
+use Rattle.riichi_study.specs.Values.{order_of, thrower_of, tile_named, tiles_named, turns_named}
 use Rattle.riichi_study.specs.Words.{only_of, shape_words, own_values, space_before_each, study_named}
 
 -- what comes behind a value that has no fault
@@ -65,6 +65,9 @@ tile_asked words = then_read (only_of (own_values keys.Tile words)) (value_or (E
 unfoldable pub from_asked : List (List ℕ) → Result Thrower LineFault
 from_asked words = then_read (only_of (own_values keys.From words)) (value_or (Err (Line H6)) thrower_of)
 
+unfoldable pub turns_asked : List (List ℕ) → Result ℕ LineFault
+turns_asked words = then_read (only_of (own_values keys.Turns words)) (value_or (Err (Line H6)) turns_named)
+
 -- no tiles, where none are said
 unfoldable pub tiles_asked : StudyKey → List (List ℕ) → Result (List ℕ) LineFault
 tiles_asked key words = then_read (only_of (own_values key words)) (value_or (Ok (replicate 34 0)) tiles_named)
@@ -91,11 +94,16 @@ safe_asked words =
     then_read (hand_asked Safe words) (λ hand. then_read (tiles_asked keys.Own words) (λ own. then_read (tiles_asked keys.Thrown words) (λ thrown. then_read (tiles_asked keys.Since words) (λ since.
     then_read (safe_record_of (safe_parts hand own thrown since)) (λ parts. Ok (Some (asks.Safe parts)))))))
 
+unfoldable pub chances_asked : List (List ℕ) → Result (Option Study) LineFault
+chances_asked words =
+    then_read (hand_asked Chances words) (λ hand. then_read (turns_asked words) (λ turns. Ok (Some (asks.Chances hand turns))))
+
 abbrev pub job_asked : Option StudyName → List (List ℕ) → Result (Option Study) LineFault
 job_asked None words = Err (Line H2)
 job_asked (Some Shape) words = shape_asked words
 job_asked (Some Calls) words = calls_asked words
 job_asked (Some Safe) words = safe_asked words
+job_asked (Some Chances) words = chances_asked words
 
 -- no word asks nothing; a byte that isn't printable is a fault before each other
 abbrev pub line_asked : Bool → List (List ℕ) → Result (Option Study) LineFault

@@ -11,7 +11,8 @@ use Rattle.riichi_deeper.specs.declared.gains.Call.{Call}
 use Rattle.riichi_deeper.specs.declared.outlook.Outlook.{Outlook}
 use Rattle.riichi_study.specs.declared.prospect.Prospect.{Prospect}
 use Rattle.riichi_study.specs.declared.study.Study.{Study}
-use Rattle.riichi_study.specs.Findings.{Finding, Hand, Discards, Calls, Safety, finding_of}
+use Rattle.riichi_study.specs.ChanceTexts.{chances_text}
+use Rattle.riichi_study.specs.Findings.{Finding, Hand, Discards, Calls, Safety, Chances, finding_of}
 use Rattle.riichi_study.specs.SafeTexts.{safe_text}
 
 -- ---- a shape
@@ -63,6 +64,7 @@ finding_text (Hand shanten accepted outlook) = shanten_front shanten ++ thirteen
 finding_text (Discards shanten order prospects) = shanten_front shanten ++ flat_map prospect_text prospects
 finding_text (Calls shanten tile calls kong) = codes "calls" ++ none_text calls ++ flat_map (call_text shanten) calls ++ kong_text tile kong
 finding_text (Safety parts) = safe_text parts
+finding_text (Chances parts turns) = chances_text parts turns
 
 abbrev pub study_text : Study → List ℕ
 study_text study = finding_text (finding_of study)

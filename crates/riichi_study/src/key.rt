@@ -16,6 +16,8 @@ pub enum StudyKey {
     Thrown,
     /// What all others have thrown since that player's riichi.
     Since,
+    /// How many turns are to come.
+    Turns,
 }
 
 impl StudyKey {
@@ -32,6 +34,7 @@ impl StudyKey {
             StudyKey::Own => "own",
             StudyKey::Thrown => "thrown",
             StudyKey::Since => "since",
+            StudyKey::Turns => "turns",
         }
     }
 }

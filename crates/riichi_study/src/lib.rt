@@ -1,7 +1,7 @@
 //! Questions of a player or a trainer, a line each, and what their answers are made of.
 //!
 //! [`read_study`] reads a line: a [`Study`], nothing, or the line's first fault. A shape is asked with the [`Order`] of its best
-//! discards, calls with the tile that another player has thrown, as a [`CallRecord`].
+//! discards, calls with the tile that another player has thrown, as a [`CallRecord`], chances with the [`Turns`] that are to come.
 //!
 //! [`prospects`] are the best discards of fourteen tiles in an order, each with what stands beyond it; the rest of an answer
 //! `riichi_shape` and `riichi_deeper` find. It is written in pieces, each behind what a text holds: [`push_shanten`] and
@@ -22,6 +22,7 @@ mod safe_reasons;
 mod safe_text;
 mod study;
 mod text;
+mod turns;
 mod values;
 mod words;
 
@@ -45,3 +46,4 @@ pub use text::{
     MOST_CALL, MOST_CALLS, MOST_HAND, MOST_PROSPECT, MOST_SHANTEN, push_call, push_calls,
     push_hand, push_kong, push_prospect, push_shanten,
 };
+pub use turns::Turns;

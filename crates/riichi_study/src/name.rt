@@ -14,17 +14,24 @@ pub enum StudyName {
     Calls,
     /// On which tiles of a hand a threatening player can't win, and whether the hand is furiten.
     Safe,
+    /// How likely a hand is to be ready, and to win, by so many draws.
+    Chances,
 }
 
 impl StudyName {
     pub(crate) fn read(word: &[u8]) -> Option<StudyName>
         ensures { result ≡ spec.study_named word.now }
     {
-        match word {
-            b"shape" => Some(StudyName::Shape),
-            b"calls" => Some(StudyName::Calls),
-            b"safe" => Some(StudyName::Safe),
-            _ => None,
+        if word == b"shape".as_slice() {
+            Some(StudyName::Shape)
+        } else if word == b"calls".as_slice() {
+            Some(StudyName::Calls)
+        } else if word == b"safe".as_slice() {
+            Some(StudyName::Safe)
+        } else if word == b"chances".as_slice() {
+            Some(StudyName::Chances)
+        } else {
+            None
         }
     }
 
@@ -43,6 +50,7 @@ impl StudyName {
                     || own_value(StudyKey::Thrown, word).is_some()
                     || own_value(StudyKey::Since, word).is_some()
             }
+            StudyName::Chances => own_value(StudyKey::Turns, word).is_some(),
         }
     }
 }

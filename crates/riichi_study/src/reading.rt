@@ -11,6 +11,7 @@ use crate::key::StudyKey;
 use crate::name::StudyName;
 use crate::order::Order;
 use crate::study::Study;
+use crate::turns::Turns;
 use crate::values::{read_thrower, read_tile, read_tiles};
 use crate::words::{LineRoom, only_value, push_others};
 use riichi_deeper::{Thrower, Thrown};
@@ -42,6 +43,7 @@ pub fn read_study(line: &[u8]) -> Result<Option<Study>, LineFault>
         Some(StudyName::Shape) => read_shape(words),
         Some(StudyName::Calls) => read_calls(words),
         Some(StudyName::Safe) => read_safe(words),
+        Some(StudyName::Chances) => read_chances(words),
         None => Err(LineFault::Line(LineCode::H2)),
     }
 }
@@ -82,6 +84,17 @@ fn read_safe(words: &[u8]) -> Result<Option<Study>, LineFault>
     let since = read_list(StudyKey::Since, words)?;
     let asked = SafeRecord::new(hand, own, thrown, since)?;
     Ok(Some(Study::Safe(asked)))
+}
+
+/// The question of the words of a line behind `chances`.
+#[tactic(auto, unfolding(crate::specs::Lines::chances_asked))]
+fn read_chances(words: &[u8]) -> Result<Option<Study>, LineFault>
+    requires { length words.now ≤ MOST_LINE }
+    ensures { result ≡ spec.chances_asked (words_of words.now) }
+{
+    let hand = read_hand(StudyName::Chances, words)?;
+    let turns = read_turns(words)?;
+    Ok(Some(Study::Chances(hand, turns)))
 }
 
 /// The shape that the words spell which are not of the study line's own.
@@ -166,5 +179,16 @@ fn read_from(words: &[u8]) -> Result<Thrower, LineFault>
     match only_value(StudyKey::From, words)? {
         None => Err(LineFault::Line(LineCode::H6)),
         Some(value) => read_thrower(value).ok_or(LineFault::Line(LineCode::H4)),
+    }
+}
+
+/// How many turns are to come.
+#[tactic(auto, unfolding(crate::specs::Lines::turns_asked))]
+fn read_turns(words: &[u8]) -> Result<Turns, LineFault>
+    ensures { result ≡ spec.turns_asked (words_of words.now) }
+{
+    match only_value(StudyKey::Turns, words)? {
+        None => Err(LineFault::Line(LineCode::H6)),
+        Some(value) => Turns::read(value).ok_or(LineFault::Line(LineCode::H4)),
     }
 }

@@ -1,6 +1,7 @@
 //! What a study line asks.
 use crate::call_record::CallRecord;
 use crate::order::Order;
+use crate::turns::Turns;
 use riichi_hand::ShapeRecord;
 use riichi_safe::SafeRecord;
 
@@ -13,4 +14,6 @@ pub enum Study {
     Calls(CallRecord),
     /// On which of these tiles can't a threatening player win, which two-sided waits on the others are gone, and is the hand furiten?
     Safe(SafeRecord),
+    /// How likely is this hand to be ready, and to win, by so many draws?
+    Chances(ShapeRecord, Turns),
 }
