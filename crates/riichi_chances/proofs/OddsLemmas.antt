@@ -1,16 +1,17 @@
 -- The chances of one number of turns, by those of all.
-use Rattle.std.proofs.Common.{◌≡◌, ℕ, suc, ◌<◌, List, [], ◌∷◌, length, map, refl, ap, ◌∙◌, arith}
+use Rattle.std.proofs.Common.{◌≡◌, ℕ, zero, suc, ◌-◌, ◌*◌, ◌<◌, ◌≤◌, List, [], ◌∷◌, length, map, refl, ap, ◌∙◌, arith}
 use Rattle.std.specs.Prelude.{slice_index_or}
 use Rattle.riichi_hand.specs.HandParts.{ShapeParts}
 use Rattle.riichi_shape.specs.Discards.{discards_of}
 use Rattle.riichi_deeper.specs.Drawn.{parts_without}
 use Rattle.riichi_chances.specs.Chances.{AreAfter, AreAfterAtMost, AreAtMost, AreChances, parts_told}
-use Rattle.riichi_chances.specs.Draws.{unseen_of}
+use Rattle.riichi_chances.specs.Draws.{all_draws, unseen_of}
 use Rattle.riichi_chances.specs.Graph.{discard_kinds}
-use Rattle.riichi_chances.specs.Odds.{all_odds_after, each_odds_at, odds_after, odds_at, odds_by, odds_of}
+use Rattle.riichi_chances.specs.Odds.{ArePartsOfAll, all_odds_after, each_odds_at, odds_after, odds_at, odds_by, odds_of}
 use Rattle.riichi_chances.specs.declared.chances.Chances.{Chances}
 use Rattle.riichi_chances.specs.declared.discards.DiscardChances.{DiscardChances}
 use Rattle.riichi_chances.specs.declared.odds.Odds.{Odds}
+use Rattle.riichi_chances.proofs.SpanLemmas.{all_more, all_none}
 
 abbrev odds_from : ℕ → ℕ → ℕ → ℕ → ℕ → Odds
 odds_from ready ready_at_most win win_at_most all = record { ready = ready; ready_at_most = ready_at_most; win = win; win_at_most = win_at_most; all = all }
@@ -41,3 +42,23 @@ unfolding odds_after
 fourteen_odds drawn turns each kinds are most =
     same_each each (discard_kinds (discards_of drawn.tiles drawn.melds drawn.seen)) (λ (one : DiscardChances). odds_at one.chances turns) (odds_after drawn turns) kinds
     (λ place one low. by_chances (parts_without drawn (slice_index_or each place one).kind) (parts_told drawn (slice_index_or each place one).kind) turns (slice_index_or each place one).chances (are place one low) (most place one low))
+
+-- where there are as many tiles as draws
+all_some : (unseen turns : ℕ) → turns ≤ unseen → 0 < all_draws unseen turns
+all_some unseen zero few = omega (arith, all_none unseen)
+all_some unseen (suc turns) few = by_rest unseen (all_draws (unseen - 1) turns) (omega (arith, few)) (all_some (unseen - 1) turns (omega (arith, few))) (all_more unseen turns)
+  where
+    by_rest : (n rest : ℕ) {all : ℕ} → 0 < n → 0 < rest → all ≡ n * rest → 0 < all
+    by_rest (suc n) (suc rest) one more e = omega (arith, e)
+    by_rest zero rest one more e = absurd (omega (arith, one))
+    by_rest (suc n) zero one more e = absurd (omega (arith, more))
+
+-- they are parts of some draws
+pub parts_of_all : (parts told : ShapeParts) (turns : ℕ) (chances : Chances) → AreChances parts turns chances → AreAtMost told (unseen_of parts) turns chances → turns ≤ unseen_of parts → ArePartsOfAll (odds_at chances turns)
+parts_of_all parts told turns chances are most few = record {
+  ready = are.ready_few turns (omega arith);
+  ready_at_most = omega (arith, most.ready turns (omega arith), are.all turns (omega arith));
+  win = are.win_few turns (omega arith);
+  win_at_most = omega (arith, most.win turns (omega arith), are.all turns (omega arith));
+  some = omega (arith, are.all turns (omega arith), all_some (unseen_of parts) turns few);
+}

@@ -1,5 +1,5 @@
 -- The chances of one number of turns.
-use Rattle.std.specs.Prelude.{ℕ, List, map, slice_index}
+use Rattle.std.specs.Prelude.{ℕ, ◌<◌, ◌≤◌, List, map, slice_index}
 use Rattle.riichi_hand.specs.HandParts.{ShapeParts}
 use Rattle.riichi_shape.specs.Discards.{discards_of}
 use Rattle.riichi_deeper.specs.Drawn.{parts_without}
@@ -10,6 +10,14 @@ use Rattle.riichi_chances.specs.Graph.{discard_kinds}
 use Rattle.riichi_chances.specs.declared.chances.Chances.{Chances}
 use Rattle.riichi_chances.specs.declared.discards.DiscardChances.{DiscardChances}
 use Rattle.riichi_chances.specs.declared.odds.Odds.{Odds}
+
+-- they are parts of some draws
+pub record ArePartsOfAll (odds : Odds) : Type 0 where
+  pub ready : odds.ready ≤ odds.all
+  pub ready_at_most : odds.ready_at_most ≤ odds.all
+  pub win : odds.win ≤ odds.all
+  pub win_at_most : odds.win_at_most ≤ odds.all
+  pub some : 0 < odds.all
 
 abbrev pub odds_at : Chances → ℕ → Odds
 odds_at chances turns = record {

@@ -14,7 +14,7 @@ use crate::goal::Goal;
 use crate::graph::Graph;
 use crate::rows::Rows;
 use crate::span::Span;
-use crate::unseen::unseen;
+use crate::unseen::unseen_tiles;
 use riichi_hand::ShapeRecord;
 use riichi_shape::RowSource;
 use std::alloc::{AllocError, Global};
@@ -83,7 +83,7 @@ pub fn chances_of<R: RowSource>(
     ensures many { OnTooMany result (ComesToMore most_hands (by_itself asked.now)) }
     ensures stays { source.new ≡ source.old }
 {
-    let unseen = unseen(asked);
+    let unseen = unseen_tiles(asked);
     let mut graph = Graph::new(alloc, most_hands);
     let place = place_of(source, &mut graph, asked)?;
     let each = by_turns(&graph, &[place], unseen, turns)?;

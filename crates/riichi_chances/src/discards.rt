@@ -13,7 +13,7 @@ use crate::chances::{Chances, by_turns, chances_of};
 use crate::fault::ChancesFault;
 use crate::goal::is_won;
 use crate::graph::Graph;
-use crate::unseen::unseen;
+use crate::unseen::unseen_tiles;
 use riichi_deeper::without_tile;
 use riichi_hand::ShapeRecord;
 use riichi_shape::{Accepts, DiscardList, RowSource, shape_with};
@@ -126,7 +126,7 @@ fn all_together<R: RowSource>(
     ensures many { OnTooMany result (ComesToMore most_hands (together asked.now)) }
     ensures stays { source.new ≡ source.old }
 {
-    let unseen = unseen(asked);
+    let unseen = unseen_tiles(asked);
     let mut graph = Graph::new(alloc, most_hands);
     let places = places_of(source, &mut graph, asked, discards)?;
     let chances = by_turns(&graph, places.as_slice(), unseen, turns)?;

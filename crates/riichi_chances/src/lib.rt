@@ -46,3 +46,4 @@ pub use fraction::Fraction;
 pub use goal::Goal;
 pub use odds::Odds;
 pub use span::MOST_TURNS;
+pub use unseen::unseen_tiles;

@@ -8,7 +8,7 @@ use riichi_hand::ShapeRecord;
 use riichi_tiles::meld_tiles;
 
 /// How many tiles are neither in a hand and its melds nor seen elsewhere.
-pub(crate) fn unseen(asked: &ShapeRecord) -> u8
+pub fn unseen_tiles(asked: &ShapeRecord) -> u8
     ensures value { result ≡ unseen_of asked.now }
     ensures most { result ≤ 136 }
     ensures thirteen { is_thirteen asked.now.tiles asked.now.melds ≡ true → IsThirteen asked.now }

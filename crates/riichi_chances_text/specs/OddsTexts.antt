@@ -1,17 +1,9 @@
 -- The texts of the chances of one number of turns.
-use Rattle.std.specs.Prelude.{ℕ, ◌<◌, ◌≤◌, List, ◌++◌, codes, decimal}
+use Rattle.std.specs.Prelude.{ℕ, List, ◌++◌, codes, decimal}
 use Rattle.riichi_chances.specs.Fractions.{in_lowest_terms}
 use Rattle.riichi_chances.specs.declared.fraction.Fraction.{Fraction}
 use Rattle.riichi_chances.specs.declared.odds.Odds.{Odds}
 use Rattle.riichi_chances_text.specs.FractionTexts.{decimal_text, fraction_text}
-
--- they are parts of some draws
-pub record ArePartsOfAll (odds : Odds) : Type 0 where
-  pub ready : odds.ready ≤ odds.all
-  pub ready_at_most : odds.ready_at_most ≤ odds.all
-  pub win : odds.win ≤ odds.all
-  pub win_at_most : odds.win_at_most ≤ odds.all
-  pub some : 0 < odds.all
 
 abbrev pub part_of : ℕ → Odds → Fraction
 part_of part odds = record { part = part; whole = odds.all }

@@ -1,6 +1,7 @@
 //! The chances of one number of turns as members of an object of JSON.
 ghost use Rattle.std.specs.Prelude.{◌≡◌, ◌+◌, ◌*◌, ◌<◌, ◌≤◌, ◌++◌, length};
 ghost use Rattle.arrayvec.specs.ArrayString.{array_string_len};
+ghost use Rattle.riichi_chances.specs.Odds.{ArePartsOfAll};
 ghost use Rattle.riichi_chances_text.specs.OddsTexts as spec;
 
 use crate::fraction::{MOST_DECIMAL, MOST_U128, push_decimal};
@@ -24,7 +25,7 @@ pub const MOST_ODDS_MEMBERS: usize = 4 * MOST_MEMBER;
 
 /// Writes the chances to be ready and to win, each with its upper end, a member each.
 pub fn push_odds_members<const ROOM: usize>(text: &mut ArrayString<ROOM>, odds: &Odds)
-    requires parts { spec.ArePartsOfAll odds.now }
+    requires parts { ArePartsOfAll odds.now }
     requires room { array_string_len text.old + MOST_ODDS_MEMBERS ≤ ROOM }
     ensures bytes { text.new.bytes ≡ text.old.bytes ++ spec.odds_members odds.now }
     ensures len { array_string_len text.new ≤ array_string_len text.old + MOST_ODDS_MEMBERS }

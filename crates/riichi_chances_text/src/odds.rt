@@ -1,6 +1,7 @@
 //! The text of the chances of one number of turns.
 ghost use Rattle.std.specs.Prelude.{◌≡◌, ◌+◌, ◌*◌, ◌<◌, ◌≤◌, ◌++◌, length};
 ghost use Rattle.arrayvec.specs.ArrayString.{array_string_len};
+ghost use Rattle.riichi_chances.specs.Odds.{ArePartsOfAll};
 ghost use Rattle.riichi_chances_text.specs.OddsTexts as spec;
 
 use crate::fraction::{MOST_FRACTION, push_fraction};
@@ -14,7 +15,7 @@ pub const MOST_ODDS: usize = 4 * MOST_END;
 
 /// Writes the chances to be ready and to win, each with its upper end.
 pub fn push_odds<const ROOM: usize>(text: &mut ArrayString<ROOM>, odds: &Odds)
-    requires parts { spec.ArePartsOfAll odds.now }
+    requires parts { ArePartsOfAll odds.now }
     requires room { array_string_len text.old + MOST_ODDS ≤ ROOM }
     ensures bytes { text.new.bytes ≡ text.old.bytes ++ spec.odds_text odds.now }
     ensures len { array_string_len text.new ≤ array_string_len text.old + MOST_ODDS }

@@ -1,6 +1,7 @@
 //! The chances of one number of turns in words.
 ghost use Rattle.std.specs.Prelude.{◌≡◌, ◌+◌, ◌*◌, ◌<◌, ◌≤◌, ◌++◌, length};
 ghost use Rattle.arrayvec.specs.ArrayString.{array_string_len};
+ghost use Rattle.riichi_chances.specs.Odds.{ArePartsOfAll};
 ghost use Rattle.riichi_chances_text.specs.OddsTexts as spec;
 
 use crate::fraction::{MOST_DECIMAL, push_decimal};
@@ -15,7 +16,7 @@ pub const MOST_ODDS_WORDS: usize = 2 * MOST_BOTH;
 
 /// Writes in how many of all draws the hand is then ready, and won, and in how many at most.
 pub fn push_odds_words<const ROOM: usize>(text: &mut ArrayString<ROOM>, odds: &Odds)
-    requires parts { spec.ArePartsOfAll odds.now }
+    requires parts { ArePartsOfAll odds.now }
     requires room { array_string_len text.old + MOST_ODDS_WORDS ≤ ROOM }
     ensures bytes { text.new.bytes ≡ text.old.bytes ++ spec.odds_words odds.now }
     ensures len { array_string_len text.new ≤ array_string_len text.old + MOST_ODDS_WORDS }

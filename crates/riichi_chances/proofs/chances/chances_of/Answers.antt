@@ -15,23 +15,23 @@ pub returns-clause-chances : goal.returns-clause-chances
 returns-clause-chances g c =
     let asked = c.args.asked.now in
     let graph = c.place_of.new.graph in
-    of_thirteen asked (placed_hand asked graph.hands.keys c.in_ok-place.place) c.unseen-unseen.result c.args.turns c.index.result.now (c.unseen-unseen.ensures.thirteen c.requires.thirteen) (placed graph asked c.in_ok-place.place c.in_ok-place.ensures.place) c.unseen-unseen.ensures.value
-    (subst (AreCounted (placed_hand asked graph.hands.keys c.in_ok-place.place) c.unseen-unseen.result c.args.turns) (sym c.index.ensures) (c.in_ok-each.ensures.counted asked c.in_ok-place.ensures.grows.whole 0 c.index.result.now (omega arith)))
+    of_thirteen asked (placed_hand asked graph.hands.keys c.in_ok-place.place) c.unseen_tiles-unseen.result c.args.turns c.index.result.now (c.unseen_tiles-unseen.ensures.thirteen c.requires.thirteen) (placed graph asked c.in_ok-place.place c.in_ok-place.ensures.place) c.unseen_tiles-unseen.ensures.value
+    (subst (AreCounted (placed_hand asked graph.hands.keys c.in_ok-place.place) c.unseen_tiles-unseen.result c.args.turns) (sym c.index.ensures) (c.in_ok-each.ensures.counted asked c.in_ok-place.ensures.grows.whole 0 c.index.result.now (omega arith)))
 
 pub returns-clause-plays : goal.returns-clause-plays
 returns-clause-plays g c =
     let asked = c.args.asked.now in
     let graph = c.place_of.new.graph in
-    thirteen_plays asked (placed_hand asked graph.hands.keys c.in_ok-place.place) c.unseen-unseen.result c.args.turns c.index.result.now (c.unseen-unseen.ensures.thirteen c.requires.thirteen) (placed graph asked c.in_ok-place.place c.in_ok-place.ensures.place) c.unseen-unseen.ensures.value
-    (subst (AreCounted (placed_hand asked graph.hands.keys c.in_ok-place.place) c.unseen-unseen.result c.args.turns) (sym c.index.ensures) (c.in_ok-each.ensures.counted asked c.in_ok-place.ensures.grows.whole 0 c.index.result.now (omega arith)))
+    thirteen_plays asked (placed_hand asked graph.hands.keys c.in_ok-place.place) c.unseen_tiles-unseen.result c.args.turns c.index.result.now (c.unseen_tiles-unseen.ensures.thirteen c.requires.thirteen) (placed graph asked c.in_ok-place.place c.in_ok-place.ensures.place) c.unseen_tiles-unseen.ensures.value
+    (subst (AreCounted (placed_hand asked graph.hands.keys c.in_ok-place.place) c.unseen_tiles-unseen.result c.args.turns) (sym c.index.ensures) (c.in_ok-each.ensures.counted asked c.in_ok-place.ensures.grows.whole 0 c.index.result.now (omega arith)))
 
 pub returns-clause-at_most : goal.returns-clause-at_most
 returns-clause-at_most g c =
     let asked = c.args.asked.now in
     let graph = c.place_of.new.graph in
-    are_at_most asked c.unseen-unseen.result c.args.turns c.index.result.now (unseen_of asked) c.unseen-unseen.ensures.value
-    (subst (λ (parts : ShapeParts). AreCounted parts c.unseen-unseen.result c.args.turns c.index.result.now) (placed graph asked c.in_ok-place.place c.in_ok-place.ensures.place)
-    (subst (AreCounted (placed_hand asked graph.hands.keys c.in_ok-place.place) c.unseen-unseen.result c.args.turns) (sym c.index.ensures) (c.in_ok-each.ensures.counted asked c.in_ok-place.ensures.grows.whole 0 c.index.result.now (omega arith))))
+    are_at_most asked c.unseen_tiles-unseen.result c.args.turns c.index.result.now (unseen_of asked) c.unseen_tiles-unseen.ensures.value
+    (subst (λ (parts : ShapeParts). AreCounted parts c.unseen_tiles-unseen.result c.args.turns c.index.result.now) (placed graph asked c.in_ok-place.place c.in_ok-place.ensures.place)
+    (subst (AreCounted (placed_hand asked graph.hands.keys c.in_ok-place.place) c.unseen_tiles-unseen.result c.args.turns) (sym c.index.ensures) (c.in_ok-each.ensures.counted asked c.in_ok-place.ensures.grows.whole 0 c.index.result.now (omega arith))))
 
 pub returns-clause-few : goal.returns-clause-few
 returns-clause-few g c = alone_few c.args.asked.now c.place_of.new.graph c.in_ok-place.place c.args.most_hands c.in_ok-place.ensures.grows.whole c.in_ok-place.ensures.place (c.in_ok-place.ensures.grows.most ∙ c.new-graph.ensures.most)

@@ -12,31 +12,31 @@ pub with_kinds-requires : goal.with_kinds-requires
 with_kinds-requires g c =
     let asked = c.args.asked.now in
     ap length c.as_slice-2.ensures.value ∙ c.in_ok-chances.ensures.each ∙ ap length c.as_slice.ensures.value
-    ∙ as_many asked (c.unseen-unseen.ensures.fourteen c.requires.fourteen) c.requires.far c.args.discards.now c.requires.discards c.places_of.new.graph.hands.keys c.in_ok-places.places.items c.in_ok-places.ensures.left
+    ∙ as_many asked (c.unseen_tiles-unseen.ensures.fourteen c.requires.fourteen) c.requires.far c.args.discards.now c.requires.discards c.places_of.new.graph.hands.keys c.in_ok-places.places.items c.in_ok-places.ensures.left
 
 pub returns-clause-chances : goal.returns-clause-chances
 returns-clause-chances g c =
     let asked = c.args.asked.now in
     let keys = c.places_of.new.graph.hands.keys in
     let chances = c.in_ok-chances.chances.items in
-    let counted = subst (λ (places : List ℕ). AreAllCounted asked keys places c.unseen-unseen.result c.args.turns chances) c.as_slice.ensures.value (c.in_ok-chances.ensures.counted asked c.in_ok-places.ensures.grows.whole) in
-    after_all asked (c.unseen-unseen.ensures.fourteen c.requires.fourteen) c.requires.far c.args.discards.now c.requires.discards keys c.in_ok-places.places.items c.in_ok-places.ensures.left c.unseen-unseen.result c.args.turns chances c.in_ok-each.each.items c.unseen-unseen.ensures.value counted c.in_ok-each.ensures.kinds (c.in_ok-each.ensures.chances ∙ c.as_slice-2.ensures.value)
+    let counted = subst (λ (places : List ℕ). AreAllCounted asked keys places c.unseen_tiles-unseen.result c.args.turns chances) c.as_slice.ensures.value (c.in_ok-chances.ensures.counted asked c.in_ok-places.ensures.grows.whole) in
+    after_all asked (c.unseen_tiles-unseen.ensures.fourteen c.requires.fourteen) c.requires.far c.args.discards.now c.requires.discards keys c.in_ok-places.places.items c.in_ok-places.ensures.left c.unseen_tiles-unseen.result c.args.turns chances c.in_ok-each.each.items c.unseen_tiles-unseen.ensures.value counted c.in_ok-each.ensures.kinds (c.in_ok-each.ensures.chances ∙ c.as_slice-2.ensures.value)
 
 pub returns-clause-at_most : goal.returns-clause-at_most
 returns-clause-at_most g c =
     let asked = c.args.asked.now in
     let keys = c.places_of.new.graph.hands.keys in
     let chances = c.in_ok-chances.chances.items in
-    let counted = subst (λ (places : List ℕ). AreAllCounted asked keys places c.unseen-unseen.result c.args.turns chances) c.as_slice.ensures.value (c.in_ok-chances.ensures.counted asked c.in_ok-places.ensures.grows.whole) in
-    after_most asked (c.unseen-unseen.ensures.fourteen c.requires.fourteen) c.requires.far c.args.discards.now c.requires.discards keys c.in_ok-places.places.items c.in_ok-places.ensures.left c.unseen-unseen.result c.args.turns chances c.in_ok-each.each.items c.unseen-unseen.ensures.value counted c.in_ok-each.ensures.kinds (c.in_ok-each.ensures.chances ∙ c.as_slice-2.ensures.value)
+    let counted = subst (λ (places : List ℕ). AreAllCounted asked keys places c.unseen_tiles-unseen.result c.args.turns chances) c.as_slice.ensures.value (c.in_ok-chances.ensures.counted asked c.in_ok-places.ensures.grows.whole) in
+    after_most asked (c.unseen_tiles-unseen.ensures.fourteen c.requires.fourteen) c.requires.far c.args.discards.now c.requires.discards keys c.in_ok-places.places.items c.in_ok-places.ensures.left c.unseen_tiles-unseen.result c.args.turns chances c.in_ok-each.each.items c.unseen_tiles-unseen.ensures.value counted c.in_ok-each.ensures.kinds (c.in_ok-each.ensures.chances ∙ c.as_slice-2.ensures.value)
 
 pub returns-clause-plays : goal.returns-clause-plays
 returns-clause-plays g c =
     let asked = c.args.asked.now in
     let keys = c.places_of.new.graph.hands.keys in
     let chances = c.in_ok-chances.chances.items in
-    let counted = subst (λ (places : List ℕ). AreAllCounted asked keys places c.unseen-unseen.result c.args.turns chances) c.as_slice.ensures.value (c.in_ok-chances.ensures.counted asked c.in_ok-places.ensures.grows.whole) in
-    after_plays asked (c.unseen-unseen.ensures.fourteen c.requires.fourteen) c.requires.far c.args.discards.now c.requires.discards keys c.in_ok-places.places.items c.in_ok-places.ensures.left c.unseen-unseen.result c.args.turns chances c.in_ok-each.each.items c.unseen-unseen.ensures.value counted c.in_ok-each.ensures.kinds (c.in_ok-each.ensures.chances ∙ c.as_slice-2.ensures.value)
+    let counted = subst (λ (places : List ℕ). AreAllCounted asked keys places c.unseen_tiles-unseen.result c.args.turns chances) c.as_slice.ensures.value (c.in_ok-chances.ensures.counted asked c.in_ok-places.ensures.grows.whole) in
+    after_plays asked (c.unseen_tiles-unseen.ensures.fourteen c.requires.fourteen) c.requires.far c.args.discards.now c.requires.discards keys c.in_ok-places.places.items c.in_ok-places.ensures.left c.unseen_tiles-unseen.result c.args.turns chances c.in_ok-each.each.items c.unseen_tiles-unseen.ensures.value counted c.in_ok-each.ensures.kinds (c.in_ok-each.ensures.chances ∙ c.as_slice-2.ensures.value)
 
 pub returns-clause-few : goal.returns-clause-few
 returns-clause-few g c =

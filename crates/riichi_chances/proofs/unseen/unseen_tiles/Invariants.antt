@@ -2,7 +2,7 @@ use Rattle.std.proofs.Common.{◌≡◌, ◌+◌, ◌-◌, ◌*◌, ◌≤◌}
 use Rattle.riichi_rows.proofs.Spread.{spread}
 use Rattle.riichi_shape.specs.Accepted.{live_of}
 use Rattle.riichi_chances.specs.Draws.{unseen_of}
-use Rattle.riichi_chances.proofs.unseen.unseen.Given as goal
+use Rattle.riichi_chances.proofs.unseen.unseen_tiles.Given as goal
 
 -- those so far, and those of the kinds that are left
 abbrev pub invariant-loop-kind : goal.invariant-loop-kind

@@ -1,7 +1,7 @@
 use Rattle.std.proofs.Common.{◌≡◌, List, ℕ, length, sym, ap, ◌∙◌, arith}
 use Rattle.std.specs.Prelude.{slice_index}
 use Rattle.riichi_chances.proofs.UnseenLemmas.{copies_of, copies_told, is_whole, is_whole_drawn, unseen_end, unseen_init, unseen_step}
-use Rattle.riichi_chances.proofs.unseen.unseen.Goals as goal
+use Rattle.riichi_chances.proofs.unseen.unseen_tiles.Goals as goal
 
 pub loop-kind-init : goal.loop-kind-init
 loop-kind-init c = record { so_far = unseen_init c.args.asked.now; few = omega arith }
