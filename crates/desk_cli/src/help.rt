@@ -79,6 +79,7 @@ Lines:
   shape HAND [open=MELDS] [seen=TILES] [order=live|second|good]
   calls HAND tile=T from=left|across|right [open=MELDS] [seen=TILES]
   safe HAND [own=TILES] [thrown=TILES] [since=TILES] [open=MELDS] [seen=TILES]
+  chances HAND turns=N [open=MELDS] [seen=TILES]
 
 Exit status:
 "

@@ -1,5 +1,6 @@
 pub mod ListedLemmas
 pub mod FaultLemmas
 pub mod FindingLemmas
+pub mod FoundLemmas
 pub mod QuestionLemmas
 pub mod PartLemmas

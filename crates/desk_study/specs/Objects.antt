@@ -13,10 +13,11 @@ use Rattle.riichi_deeper.specs.declared.gains.Call.{Call}
 use Rattle.riichi_deeper.specs.declared.outlook.Outlook.{Outlook}
 use Rattle.riichi_study.specs.declared.order.Order.{Order}
 use Rattle.riichi_study.specs.declared.prospect.Prospect.{Prospect}
-use Rattle.riichi_study.specs.Findings.{Finding, Hand, Discards, Calls, Safety}
+use Rattle.riichi_study.specs.Findings.{Finding, Hand, Discards, Calls, Safety, Chances}
 use Rattle.riichi_study.specs.Prospects.{order_word}
 use Rattle.desk_json.specs.Parts.{accepted_json, listed}
 use Rattle.desk_study.specs.SafeObjects.{safe_members}
+use Rattle.desk_study.specs.ChanceObjects.{chances_members}
 
 -- ---- a shape
 
@@ -69,3 +70,4 @@ finding_members (Discards shanten order prospects) =
 finding_members (Calls shanten tile calls kong) =
     codes "\"answer\":\"calls\",\"shanten\":" ++ signed_decimal shanten ++ codes ",\"calls\":[" ++ calls_json calls ++ codes "],\"kong\":" ++ kong_json tile kong ++ codes "}"
 finding_members (Safety parts) = safe_members parts
+finding_members (Chances parts turns) = chances_members parts turns

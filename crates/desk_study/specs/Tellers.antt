@@ -1,8 +1,11 @@
 -- What a teller of questions has told.
-use Rattle.std.specs.Prelude.{◌≡◌, ℕ, List}
+use Rattle.std.specs.Prelude.{◌≡◌, ℕ, List, ◌∷◌, Some, Ok}
 use Rattle.desk_lines.specs.Telling.{report_of}
 use Rattle.desk_lines.specs.declared.report.DeskReport.{DeskReport}
+use Rattle.riichi_study.specs.Lines.{study_of}
+use Rattle.riichi_study.specs.declared.study.Study.{Study}
 use Rattle.desk_study.specs.Answers.{question_answers, question_kinds}
+use Rattle.desk_study.specs.Found.{AsksChances}
 use Rattle.desk_study.specs.declared.questions.Questions.{Questions}
 
 -- from the first state to the second these are the answers to these lines, counted so; the first line has the number 1
@@ -10,3 +13,11 @@ pub record HasAnswered (first now : Questions) (lines answers : List (List ℕ))
   pub alike : now.manner ≡ first.manner
   pub answers_are : answers ≡ question_answers first.manner 1 lines
   pub report_is : report ≡ report_of (question_kinds 1 lines)
+
+-- a line asks for chances, for which memory may be wanted
+abbrev pub LineAsksChances : List ℕ → Type 0
+LineAsksChances line = (study : Study) × (study_of line ≡ Ok (Some study)) × AsksChances study
+
+-- the first of some lines does
+abbrev pub FirstAsksChances : List (List ℕ) → Type 0
+FirstAsksChances lines = (line : List ℕ) × (others : List (List ℕ)) × (lines ≡ line ∷ others) × LineAsksChances line

@@ -2,23 +2,27 @@
 //!
 //! [`study_text`] answers the lines that a `desk_io::Source` gives, and writes the answers into a `desk_io::Sink`. It returns a
 //! `DeskReport` of how many were answered and how many refused, or the `DeskFault` for which it gave up. A line asks what
-//! `riichi_study` reads of it: of a shape what stands beyond its next step, or which calls of a thrown tile bring a hand nearer. The
+//! `riichi_study` reads of it: of a shape what stands beyond its next step, which calls of a thrown tile bring a hand nearer, or how likely a hand is to be ready, and
+//! to win, by so many draws. The
 //! [`StudiesManner`] says in which [`StudiesForm`]: as a line, as a line with lines in words below it, or as an object of JSON. Each
 //! is put in pieces, since an answer may be longer than the room of one text. [`Questions`] is the `desk_lines::Teller` of such a
-//! text. It takes no memory. [`study_text_by`] answers a text that is at hand by several threads, and takes memory for all answers.
+//! text. It takes memory for chances alone. [`study_text_by`] answers a text that is at hand by several threads, and takes memory for all answers.
 //! docs/NOTATION.md has the lines and the answers.
 //!
 //! ```text
 //! let mut reader = FromReader::new(rt.reader());
 //! let mut writer = ToWriter::new(io::writer(&rt));
 //! let manner = StudiesManner { form: StudiesForm::Answers, is_numbered: false };
-//! let report = study_text(&mut SuitMemo::in_value(), manner, &mut reader, &mut writer)?;
+//! let report = study_text(rt.alloc(), &mut SuitMemo::in_value(), manner, &mut reader, &mut writer)?;
 //! ```
 #![tactic(auto)]
 
 mod beside;
 mod calls;
+mod chance_objects;
+mod chances;
 mod form;
+mod found;
 mod members;
 mod objects;
 mod part;

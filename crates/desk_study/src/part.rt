@@ -27,7 +27,7 @@ impl Part {
         requires { number + length text.now < 2 ^ 64 }
         ensures { IfOk result (spec.IsAnswered manner number (lines text.now)) }
     {
-        let questions = Questions::new(manner);
+        let questions = Questions::new(alloc, manner);
         let mut rows = SuitMemo::new(alloc);
         let mut outbox = Outbox::new();
         let mut answers = Vec::new(alloc);
@@ -39,7 +39,7 @@ impl Part {
         let mut rest = text;
         while let Some((line, after)) = next_line(rest) {
             outbox.clear();
-            let kind = questions.take(next, line, &mut outbox, &mut rows);
+            let kind = questions.take(next, line, &mut outbox, &mut rows)?;
             answers.extend_from_slice(outbox.as_slice())?;
             report = counted(report, kind);
             next += 1;

@@ -1,11 +1,15 @@
 //! Answers the questions of a text one by one.
-ghost use Rattle.std.specs.Prelude.{◌≡◌, ◌∷◌, ◌++◌, []};
+ghost use Rattle.std.specs.Prelude.{◌≡◌, ◌∷◌, ◌++◌, [], IfOk, OnOk, OnErr};
 ghost use Rattle.desk_lines.specs.Outbox.{HasRoomForLine};
 ghost use Rattle.desk_lines.specs.Telling.{with_line_feed};
 ghost use Rattle.riichi_study.specs.Findings as found;
 ghost use Rattle.desk_study.specs.Answers as spec;
+ghost use Rattle.desk_study.specs.Found.{AsksChances, IsFoundOf};
+ghost use Rattle.desk_study.specs.Tellers.{LineAsksChances};
 
 use crate::calls::put_calls;
+use crate::chances::put_chances;
+use crate::found::{FoundChances, find_chances};
 use crate::form::{StudiesForm, StudiesManner};
 use crate::puts::{put_end, put_fault, put_front};
 use crate::safe::put_safe;
@@ -14,23 +18,24 @@ use desk_lines::{LineKind, Outbox, Teller, profile_of};
 use riichi_hand::LineFault;
 use riichi_shape::RowSource;
 use riichi_study::{Study, read_study};
-use std::alloc::AllocError;
+use std::alloc::{AllocError, Global};
 
-/// The teller of a text of questions: each is answered by itself. It takes no memory.
+/// The teller of a text of questions: each is answered by itself. Chances alone take memory, while they are counted.
 #[derive(Drop)]
 pub struct Questions {
+    alloc: Global,
     manner: StudiesManner,
 }
 
 impl Questions {
-    pub fn new(manner: StudiesManner) -> Questions
+    pub fn new(alloc: Global, manner: StudiesManner) -> Questions
         ensures { result.manner ≡ manner }
     {
-        Questions { manner }
+        Questions { alloc, manner }
     }
 
     /// Takes the line of this number, and puts its answer. The first line may set a rule profile, as in a text of record lines: hands
-    /// are studied alike under each, and it is not answered.
+    /// are studied alike under each, and it is not answered. Where there is no memory for a question of chances, nothing is put.
     #[tactic(auto, unfolding(crate::specs::Answers::question_answer, crate::specs::Answers::question_kind))]
     pub fn take<S: RowSource>(
         &self,
@@ -38,26 +43,29 @@ impl Questions {
         line: &[u8],
         outbox: &mut Outbox,
         source: &mut S,
-    ) -> LineKind
+    ) -> Result<LineKind, AllocError>
         requires { HasRoomForLine outbox.old }
-        ensures kind { result ≡ spec.question_kind number line.now }
-        ensures put { outbox.new.bytes.items ≡ outbox.old.bytes.items
-            ++ with_line_feed (spec.question_answer self.now.manner number line.now) }
+        ensures kind { IfOk result (λ kind. kind ≡ spec.question_kind number line.now) }
+        ensures put { OnOk result (outbox.new.bytes.items ≡ outbox.old.bytes.items
+            ++ with_line_feed (spec.question_answer self.now.manner number line.now)) }
+        ensures no_memory { OnErr result ((outbox.new.bytes.items ≡ outbox.old.bytes.items)
+            × LineAsksChances line.now) }
     {
         if names_rules(number, line) {
-            return LineKind::NoRecord;
+            return Ok(LineKind::NoRecord);
         }
         let form = self.manner.form;
         let told = number_if(self.manner.is_numbered, number);
         match read_study(line) {
-            Ok(None) => LineKind::NoRecord,
+            Ok(None) => Ok(LineKind::NoRecord),
             Ok(Some(study)) => {
-                put_answer(form, told, &study, outbox, source);
-                LineKind::Answered
+                let found = find(self.alloc, &study, source)?;
+                put_answer(form, told, &study, &found, outbox, source);
+                Ok(LineKind::Answered)
             }
             Err(fault) => {
                 put_refusal(form, told, &fault, outbox);
-                LineKind::Refused
+                Ok(LineKind::Refused)
             }
         }
     }
@@ -77,15 +85,32 @@ fn number_if(is_numbered: bool, number: u64) -> Option<u64>
     if is_numbered { Some(number) } else { None }
 }
 
+/// Finds the chances that a question asks for, where it asks for some.
+fn find<S: RowSource>(
+    alloc: Global,
+    study: &Study,
+    source: &mut S,
+) -> Result<Option<FoundChances>, AllocError>
+    ensures found { IfOk result (IsFoundOf study.now) }
+    ensures no_memory { OnErr result (AsksChances study.now) }
+{
+    match study {
+        Study::Shape(_, _) | Study::Calls(_) | Study::Safe(_) => Ok(None),
+        Study::Chances(hand, turns) => Ok(Some(find_chances(alloc, source, hand, *turns)?)),
+    }
+}
+
 /// Puts the answer to a question, with its line's number where it is told.
 fn put_answer<S: RowSource>(
     form: StudiesForm,
     number: Option<u64>,
     study: &Study,
+    chances: &Option<FoundChances>,
     outbox: &mut Outbox,
     source: &mut S,
 )
-    requires { HasRoomForLine outbox.old }
+    requires found { IsFoundOf study.now chances.now }
+    requires room { HasRoomForLine outbox.old }
     ensures { outbox.new.bytes.items ≡ outbox.old.bytes.items
         ++ (spec.form_front form number ++ spec.told_in form (found.finding_of study.now) ++ 10 ∷ []) }
 {
@@ -94,6 +119,10 @@ fn put_answer<S: RowSource>(
         Study::Shape(hand, order) => put_shape(form, hand, *order, outbox, source),
         Study::Calls(asked) => put_calls(form, asked, outbox, source),
         Study::Safe(asked) => put_safe(form, asked, outbox),
+        Study::Chances(_, _) => match chances {
+            Some(found) => put_chances(form, found, outbox),
+            None => unreachable!(),
+        },
     }
     put_end(outbox);
 }
@@ -111,7 +140,7 @@ fn put_refusal(form: StudiesForm, number: Option<u64>, fault: &LineFault, outbox
 
 impl Teller for Questions {
     ghost use Rattle.std.specs.Prelude.{List, ℕ};
-    ghost use Rattle.desk_study.specs.Tellers.{HasAnswered};
+    ghost use Rattle.desk_study.specs.Tellers.{HasAnswered, LineAsksChances};
 
     ghost Answer = { List ℕ };
 
@@ -121,7 +150,7 @@ impl Teller for Questions {
 
     ghost tells = { λ first now lines told report. HasAnswered first now lines told report };
 
-    ghost wants_memory = { λ _ _. ⊥ };
+    ghost wants_memory = { λ _ line. LineAsksChances line };
 
     fn tell<S: RowSource>(
         &mut self,
@@ -130,6 +159,6 @@ impl Teller for Questions {
         outbox: &mut Outbox,
         source: &mut S,
     ) -> Result<LineKind, AllocError> {
-        Ok(self.take(number, line, outbox, source))
+        self.take(number, line, outbox, source)
     }
 }

@@ -1,16 +1,22 @@
 -- The chances of one number of turns, by those of all.
-use Rattle.std.proofs.Common.{◌≡◌, ℕ, zero, suc, ◌-◌, ◌*◌, ◌<◌, ◌≤◌, List, [], ◌∷◌, length, map, refl, ap, ◌∙◌, arith}
-use Rattle.std.specs.Prelude.{slice_index_or}
+use Rattle.std.proofs.Common.{◌≡◌, ℕ, zero, suc, ◌-◌, ◌*◌, ◌<◌, ◌≤◌, List, [], ◌∷◌, length, map, refl, sym, subst, ap, ◌∙◌, arith}
+use Rattle.std.proofs.lemmas.List.{get_or-map, length-map}
+use Rattle.std.specs.Prelude.{slice_index, slice_index_or}
 use Rattle.riichi_hand.specs.HandParts.{ShapeParts}
+use Rattle.riichi_shape.specs.Choosing.{LeavesLeast}
 use Rattle.riichi_shape.specs.Discards.{discards_of}
+use Rattle.riichi_shape.specs.declared.discard.Discard.{Discard}
 use Rattle.riichi_deeper.specs.Drawn.{parts_without}
 use Rattle.riichi_chances.specs.Chances.{AreAfter, AreAfterAtMost, AreAtMost, AreChances, parts_told}
 use Rattle.riichi_chances.specs.Draws.{all_draws, unseen_of}
 use Rattle.riichi_chances.specs.Graph.{discard_kinds}
+use Rattle.riichi_chances.specs.Laws.{IsFourteen}
 use Rattle.riichi_chances.specs.Odds.{ArePartsOfAll, all_odds_after, each_odds_at, odds_after, odds_at, odds_by, odds_of}
 use Rattle.riichi_chances.specs.declared.chances.Chances.{Chances}
 use Rattle.riichi_chances.specs.declared.discards.DiscardChances.{DiscardChances}
 use Rattle.riichi_chances.specs.declared.odds.Odds.{Odds}
+use Rattle.riichi_chances.proofs.CountedLemmas.{discard_unseen}
+use Rattle.riichi_chances.proofs.CountingLemmas.{best_listed}
 use Rattle.riichi_chances.proofs.SpanLemmas.{all_more, all_none}
 
 abbrev odds_from : ℕ → ℕ → ℕ → ℕ → ℕ → Odds
@@ -62,3 +68,28 @@ parts_of_all parts told turns chances are most few = record {
   win_at_most = omega (arith, most.win turns (omega arith), are.all turns (omega arith));
   some = omega (arith, are.all turns (omega arith), all_some (unseen_of parts) turns few);
 }
+
+-- after each best discard too: of what is thrown no copy is unseen that wasn't before
+pub fourteen_parts : (drawn : ShapeParts) (turns : ℕ) (each : List DiscardChances) → IsFourteen drawn → map (λ (one : DiscardChances). one.kind) each ≡ discard_kinds (discards_of drawn.tiles drawn.melds drawn.seen) → AreAfter drawn turns each → AreAfterAtMost drawn turns each → turns ≤ unseen_of drawn
+    → (place : ℕ) (one : DiscardChances) → place < length each → ArePartsOfAll (odds_at (slice_index_or each place one).chances turns)
+fourteen_parts drawn turns each is kinds are most few place one low =
+    parts_of_all (parts_without drawn kind) (parts_told drawn kind) turns (slice_index_or each place one).chances (are place one low) (most place one low) (omega (arith, few, discard_unseen drawn is kind best.is_kind best.held))
+  where
+    discards : List Discard
+    discards = discards_of drawn.tiles drawn.melds drawn.seen
+
+    kind : ℕ
+    kind = (slice_index_or each place one).kind
+
+    inside : place < length discards
+    inside = omega (arith, low, length-map each (λ (it : DiscardChances). it.kind), ap length kinds, length-map discards (λ (discard : Discard). discard.kind))
+
+    kind_is : slice_index (discard_kinds discards) place ≡ kind
+    kind_is = sym (sym (get_or-map (λ (it : DiscardChances). it.kind) each place one 0 low) ∙ ap (λ (ks : List ℕ). slice_index ks place) kinds)
+
+    best : LeavesLeast drawn.tiles drawn.melds kind
+    best = subst (LeavesLeast drawn.tiles drawn.melds) kind_is (best_listed drawn discards place refl inside)
+
+-- there are as many as discards
+pub as_many_odds : (drawn : ShapeParts) (each : List DiscardChances) → map (λ (one : DiscardChances). one.kind) each ≡ discard_kinds (discards_of drawn.tiles drawn.melds drawn.seen) → length each ≡ length (discards_of drawn.tiles drawn.melds drawn.seen)
+as_many_odds drawn each kinds = omega (arith, length-map each (λ (it : DiscardChances). it.kind), ap length kinds, length-map (discards_of drawn.tiles drawn.melds drawn.seen) (λ (discard : Discard). discard.kind))

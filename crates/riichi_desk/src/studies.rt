@@ -12,6 +12,7 @@ use desk_cli::{Lines, StudyForm, StudyManner};
 use desk_io::{FromReader, Sink, Source};
 use desk_lines::SuitMemo;
 use desk_study::{StudiesForm, StudiesManner, study_text, study_text_by};
+use std::alloc::Global;
 use std::io::{Eprint, Input};
 use std::rt::Files;
 use std::thread::Threads;
@@ -90,10 +91,10 @@ fn answer_file<'a, R: Input + Eprint + Files + Clock + Threads + Sync + AllocGlo
     }
     if is_input(file) {
         let mut reader = FromReader::new(notes.text(progress, "standard input", rt.reader()));
-        return answer_source(manner, &mut reader, writer);
+        return answer_source(rt.alloc(), manner, &mut reader, writer);
     }
     let mut reader = FromReader::new(notes.text(progress, file, open_file(rt, notes, file)?));
-    answer_source(manner, &mut reader, writer)
+    answer_source(rt.alloc(), manner, &mut reader, writer)
 }
 
 /// Answers the questions of a text, by as many threads as there may be.
@@ -122,6 +123,7 @@ fn answer_text<'a, R: Threads + Sync + AllocGlobal, W: Sink>(
 
 /// Answers the questions that a source gives.
 fn answer_source<'a, S: Source, W: Sink>(
+    alloc: Global,
     manner: StudyManner,
     reader: &mut S,
     writer: &mut W,
@@ -132,7 +134,7 @@ fn answer_source<'a, S: Source, W: Sink>(
         writer.old writer.new text is_refused) }
 {
     let mut rows = SuitMemo::in_value();
-    match study_text(&mut rows, studies_manner(manner), reader, writer) {
+    match study_text(alloc, &mut rows, studies_manner(manner), reader, writer) {
         Ok(report) => Ok(report.refused > 0),
         Err(fault) => Err(Failure::Explained(fault)),
     }

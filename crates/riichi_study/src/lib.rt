@@ -6,12 +6,14 @@
 //! [`prospects`] are the best discards of fourteen tiles in an order, each with what stands beyond it; the rest of an answer
 //! `riichi_shape` and `riichi_deeper` find. It is written in pieces, each behind what a text holds: [`push_shanten`] and
 //! [`push_hand`] or [`push_prospect`] of a shape, [`push_calls`], [`push_call`] and [`push_kong`] of calls. The same in words are
-//! [`push_hand_reason`] and its neighbours, lines that begin with two spaces. docs/NOTATION.md has the lines and the answers.
+//! [`push_hand_reason`] and its neighbours, lines that begin with two spaces. [`push_chances_front`] and [`push_after`] are the pieces
+//! of chances. docs/NOTATION.md has the lines and the answers.
 //!
 //! No call takes memory.
 #![tactic(auto)]
 
 mod call_record;
+mod chance_text;
 mod key;
 mod name;
 mod order;
@@ -27,6 +29,10 @@ mod values;
 mod words;
 
 pub use call_record::CallRecord;
+pub use chance_text::{
+    MOST_AFTER, MOST_AFTER_REASON, MOST_CHANCES_FRONT, push_after, push_after_reason,
+    push_chances_front, push_hand_odds_reason,
+};
 pub use key::StudyKey;
 pub use name::StudyName;
 pub use order::Order;

@@ -1,0 +1,202 @@
+//! Answers to questions of chances.
+ghost use Rattle.std.specs.Prelude.{◌≡◌, ◌+◌, ◌*◌, ◌≤◌, ◌++◌, length, map};
+ghost use Rattle.std.specs.List.{flat_map};
+ghost use Rattle.arrayvec.specs.ArrayString.{array_string_len};
+ghost use Rattle.riichi_chances.specs.Odds.{ArePartsOfAll, odds_at};
+ghost use Rattle.desk_json.specs.Parts.{comma_if, listed};
+ghost use Rattle.desk_study.specs.Answers as room;
+ghost use Rattle.desk_study.specs.Found as spec;
+
+use crate::chance_objects::{
+    MOST_AFTER as MOST_MEMBER, MOST_FIRST as MOST_FIRST_MEMBER, MOST_FRONT, push_after as push_member,
+    push_chances_front as push_members_front, push_end, push_first,
+};
+use crate::form::StudiesForm;
+use crate::found::{FoundChances, FoundOdds};
+use crate::puts::{put_object_piece, put_piece};
+use desk_lines::Outbox;
+use riichi_chances::DiscardChances;
+use riichi_chances_text::{MOST_ODDS, push_odds};
+use riichi_study::{
+    MOST_AFTER, MOST_AFTER_REASON, MOST_CHANCES_FRONT, Turns, push_after, push_after_reason,
+    push_chances_front, push_hand_odds_reason,
+};
+use riichi_text::{ANSWER_ROOM, AnswerText};
+
+const MOST_FIRST: usize = MOST_CHANCES_FRONT + MOST_ODDS;
+
+/// The bytes of the words of hands that aren't counted.
+const MOST_UNCOUNTED: usize = 128;
+
+/// The bytes of the longest line. No hand has more than fourteen discards.
+const MOST_LINE: usize = MOST_FIRST + 14 * MOST_AFTER;
+
+/// The bytes of the longest lines in words.
+const MOST_WORDS: usize = MOST_UNCOUNTED + MOST_AFTER_REASON + 14 * MOST_AFTER;
+
+/// The bytes of the longest members.
+const MOST_MEMBERS: usize = MOST_FRONT + MOST_FIRST_MEMBER + 14 * MOST_MEMBER + "]}".len();
+
+/// The bytes of the longest answer.
+const MOST_ANSWER: usize = MOST_LINE + MOST_WORDS + MOST_MEMBERS;
+
+/// Puts what is found of a question of chances.
+pub(crate) fn put_chances(form: StudiesForm, found: &FoundChances, outbox: &mut Outbox)
+    requires parts { spec.AreParts found.now.turns found.now.odds }
+    requires few { length (spec.each_of found.now.odds) ≤ 14 }
+    requires room { room.HasRoomFor MOST_ANSWER outbox.old }
+    ensures bytes { outbox.new.bytes.items
+        ≡ outbox.old.bytes.items ++ spec.found_told form found.now }
+    ensures room { length outbox.new.bytes.items ≤ length outbox.old.bytes.items + MOST_ANSWER }
+{
+    match form {
+        StudiesForm::Answers => put_line(found, outbox),
+        StudiesForm::Explained => {
+            put_line(found, outbox);
+            put_words(found, outbox);
+        }
+        StudiesForm::Objects => put_members(found, outbox),
+    }
+}
+
+/// Puts the line of the answer.
+fn put_line(found: &FoundChances, outbox: &mut Outbox)
+    requires parts { spec.AreParts found.now.turns found.now.odds }
+    requires few { length (spec.each_of found.now.odds) ≤ 14 }
+    requires room { room.HasRoomFor MOST_LINE outbox.old }
+    ensures bytes { outbox.new.bytes.items ≡ outbox.old.bytes.items ++ spec.found_text found.now }
+    ensures room { length outbox.new.bytes.items ≤ length outbox.old.bytes.items + MOST_LINE }
+{
+    outbox.text.clear();
+    push_chances_front(&mut outbox.text, found.shanten, found.turns.count(), found.unseen);
+    push_first_text(&mut outbox.text, &found.odds);
+    put_piece(outbox);
+    put_each(false, found.turns, found.odds.discards(), outbox);
+}
+
+/// Puts the lines in words.
+fn put_words(found: &FoundChances, outbox: &mut Outbox)
+    requires parts { spec.AreParts found.now.turns found.now.odds }
+    requires few { length (spec.each_of found.now.odds) ≤ 14 }
+    requires room { room.HasRoomFor MOST_WORDS outbox.old }
+    ensures bytes { outbox.new.bytes.items
+        ≡ outbox.old.bytes.items ++ spec.found_reasons found.now }
+    ensures room { length outbox.new.bytes.items ≤ length outbox.old.bytes.items + MOST_WORDS }
+{
+    outbox.text.clear();
+    push_first_reason(&mut outbox.text, &found.odds);
+    put_piece(outbox);
+    put_each(true, found.turns, found.odds.discards(), outbox);
+}
+
+/// Writes the chances of thirteen tiles, or that none are counted.
+fn push_first_text(text: &mut AnswerText, odds: &FoundOdds)
+    requires parts { spec.IsPartsFirst odds.now }
+    requires room { array_string_len text.old + MOST_ODDS ≤ ANSWER_ROOM }
+    ensures bytes { text.new.bytes ≡ text.old.bytes ++ spec.first_text odds.now }
+    ensures len { array_string_len text.new ≤ array_string_len text.old + MOST_ODDS }
+{
+    match odds {
+        FoundOdds::Uncounted => text.push_str(" chances none"),
+        FoundOdds::Hand(odds) => push_odds(text, odds),
+        FoundOdds::Discards(_) => {}
+    }
+}
+
+/// Writes the same in words.
+fn push_first_reason(text: &mut AnswerText, odds: &FoundOdds)
+    requires parts { spec.IsPartsFirst odds.now }
+    requires room { array_string_len text.old + MOST_UNCOUNTED + MOST_AFTER_REASON ≤ ANSWER_ROOM }
+    ensures bytes { text.new.bytes ≡ text.old.bytes ++ spec.first_reason odds.now }
+    ensures len { array_string_len text.new
+        ≤ array_string_len text.old + MOST_UNCOUNTED + MOST_AFTER_REASON }
+{
+    match odds {
+        FoundOdds::Uncounted => text.push_str(
+            "\n  chances are counted to three-shanten, and for no more draws than there are tiles",
+        ),
+        FoundOdds::Hand(odds) => push_hand_odds_reason(text, odds),
+        FoundOdds::Discards(_) => {}
+    }
+}
+
+/// Puts the chances after each discard, in the line or in words.
+fn put_each(in_words: bool, turns: Turns, each: &[DiscardChances], outbox: &mut Outbox)
+    requires parts { spec.ArePartsOfEach turns each.now }
+    requires room { room.HasRoomFor (length each.now * MOST_AFTER) outbox.old }
+    ensures bytes { outbox.new.bytes.items
+        ≡ outbox.old.bytes.items ++ flat_map (spec.one_told in_words turns) each.now }
+    ensures room { length outbox.new.bytes.items
+        ≤ length outbox.old.bytes.items + length each.now * MOST_AFTER }
+{
+    for one in each {
+        put_after(in_words, turns, one, outbox);
+    }
+}
+
+/// Puts the chances after a discard.
+fn put_after(in_words: bool, turns: Turns, one: &DiscardChances, outbox: &mut Outbox)
+    requires parts { ArePartsOfAll (odds_at one.now.chances turns) }
+    requires room { room.HasRoomFor MOST_AFTER outbox.old }
+    ensures bytes { outbox.new.bytes.items
+        ≡ outbox.old.bytes.items ++ spec.one_told in_words turns one.now }
+    ensures room { length outbox.new.bytes.items ≤ length outbox.old.bytes.items + MOST_AFTER }
+{
+    let odds = one.chances.at(turns.count());
+    outbox.text.clear();
+    if in_words {
+        push_after_reason(&mut outbox.text, one.kind, &odds);
+    } else {
+        push_after(&mut outbox.text, one.kind, &odds);
+    }
+    put_piece(outbox);
+}
+
+/// Puts the members of the answer's object.
+fn put_members(found: &FoundChances, outbox: &mut Outbox)
+    requires parts { spec.AreParts found.now.turns found.now.odds }
+    requires few { length (spec.each_of found.now.odds) ≤ 14 }
+    requires room { room.HasRoomFor MOST_MEMBERS outbox.old }
+    ensures bytes { outbox.new.bytes.items
+        ≡ outbox.old.bytes.items ++ spec.found_members found.now }
+    ensures room { length outbox.new.bytes.items
+        ≤ length outbox.old.bytes.items + MOST_MEMBERS }
+{
+    outbox.object.clear();
+    push_members_front(&mut outbox.object, found.shanten, found.turns.count(), found.unseen);
+    push_first(&mut outbox.object, &found.odds);
+    put_object_piece(outbox);
+    put_each_member(found.turns, found.odds.discards(), outbox);
+    outbox.object.clear();
+    push_end(&mut outbox.object, &found.odds);
+    put_object_piece(outbox);
+}
+
+/// Puts the chances after each discard, with commas between them.
+fn put_each_member(turns: Turns, each: &[DiscardChances], outbox: &mut Outbox)
+    requires parts { spec.ArePartsOfEach turns each.now }
+    requires room { room.HasRoomFor (length each.now * MOST_MEMBER) outbox.old }
+    ensures bytes { outbox.new.bytes.items
+        ≡ outbox.old.bytes.items ++ listed (map (spec.one_json turns) each.now) }
+    ensures room { length outbox.new.bytes.items
+        ≤ length outbox.old.bytes.items + length each.now * MOST_MEMBER }
+{
+    let mut later = false;
+    for one in each {
+        put_member(later, turns, one, outbox);
+        later = true;
+    }
+}
+
+/// Puts the chances after a discard, behind a comma where it is not the first.
+fn put_member(later: bool, turns: Turns, one: &DiscardChances, outbox: &mut Outbox)
+    requires parts { ArePartsOfAll (odds_at one.now.chances turns) }
+    requires room { room.HasRoomFor MOST_MEMBER outbox.old }
+    ensures bytes { outbox.new.bytes.items
+        ≡ outbox.old.bytes.items ++ (comma_if later ++ spec.one_json turns one.now) }
+    ensures room { length outbox.new.bytes.items ≤ length outbox.old.bytes.items + MOST_MEMBER }
+{
+    outbox.object.clear();
+    push_member(&mut outbox.object, later, one.kind, &one.chances.at(turns.count()));
+    put_object_piece(outbox);
+}
