@@ -1,4 +1,4 @@
-# Rows of the command `study`, read by tests/program.sh: answers to questions of shapes and of calls, their orders, and what is refused.
+# Rows of the command `study`, read by tests/program.sh: answers to questions of shapes, of calls, of safe tiles and of chances, and what is refused.
 
 near=234m45678p34s558s far=123m4467p23557s1z wide=45567m1236788p46s
 row 0 'shanten 1 accepts 3p:4 6p:3 9p:4 2s:4 5s:2 8s:3 live 20 second 165 good 20' '' study shape $near
@@ -126,6 +126,44 @@ parted=24m55567p3349s77z
 row 0 'calls chi:678p shanten 1 discard 9s accepts 3m:2 2s:4 3s:2 5s:4 7z:1 live 13 discard 3s accepts 3m:2 2s:4 5s:4 live 10 discard 4s accepts 3m:2 3s:2 7z:1 live 5' '' study calls $parted tile=8p from=left seen=33m5p7z
 row 0 'calls pon:777z shanten 1 discard 9s accepts 3m:2 8p:4 2s:4 3s:2 5s:4 live 16 discard 3s accepts 3m:2 2s:4 5s:4 live 10 discard 4s accepts 3m:2 8p:4 3s:2 live 8' '' study calls $parted tile=7z from=right seen=33m5p7z
 row 0 'calls none' '' study calls 1199m44p2356s155z tile=4s from=left
+
+# chances: of all ordered draws of so many tiles, in lowest terms and to four digits (fractions by brute force over every draw and discard)
+row 0 'shanten 0 turns 2 unseen 123 ready 1/1 1.0000 most 1/1 1.0000 win 316/2501 0.1263 most 316/2501 0.1263' '' study chances 123456789m1134p turns=2
+row 0 'shanten 0 turns 1 unseen 123 ready 1/1 1.0000 most 1/1 1.0000 win 8/123 0.0650 most 8/123 0.0650' '' study turns=1 chances 123456789m1134p
+# reached QUESTION..: what is reached, without the upper ends
+reached() { "$program" study chances "$@" | sed 's| most [0-9/]* [0-9.]*||g'; }
+told 'one from ready' 'shanten 1 turns 3 unseen 123 ready 125770/302621 0.4156 win 1685/55022 0.0306' "$(reached $near turns=3)"
+told 'one from ready, by 18' 'shanten 1 turns 18 unseen 123 ready 12190925419173643/12584789509475073 0.9687 win 3019940306028300997/5341671110885374167 0.5654' "$(reached $near turns=18)"
+told 'two from ready' 'shanten 2 turns 2 unseen 123 ready 64/2501 0.0256 win 0/1 0.0000' "$(reached $far turns=2)"
+told 'two from ready, by 18' 'shanten 2 turns 18 unseen 123 ready 3332954253898894213/4014547853522548287 0.8302 win 19305913277764549633/60218217802838224305 0.3206' "$(reached turns=18 $far)"
+told 'three from ready' 'shanten 3 turns 3 unseen 123 ready 9056/302621 0.0299 win 128/302621 0.0004' "$(reached turns=3 1357m245p2346s77z)"
+# after each best discard of fourteen tiles, in the order of the shape's line. The better one turns with the turns.
+# wins QUESTION..: of two discards how often they win
+wins() { "$program" study chances "$@" | sed 's/ discard /\n/g' | sed -nE 's|^(6s\|2m) .* win ([0-9/]+ [0-9.]+) most [0-9/]+ ([0-9.]+)$|\1 \2 \3|p'; }
+told 'two discards by 6 turns' '6s 49583714/481204295 0.1030, 2m 27689599/288722577 0.0959' "$(wins 23678m23p1236789s turns=6 | cut -d ' ' -f 1-3 | paste -s -d , | sed 's/,/, /')"
+told 'two discards by 18 turns' '6s 0.4462 0.4745, 2m 0.4984 0.4984' "$(wins 23678m23p1236789s turns=18 | cut -d ' ' -f 1,3,4 | paste -s -d , | sed 's/,/, /')"
+told 'discards as of a shape' "$("$program" shape 44577m23p3356678s | grep -o 'discard ..')" "$("$program" study chances 44577m23p3356678s turns=5 | grep -o 'discard ..')"
+# beyond three-shanten, and where fewer tiles are unseen than are drawn, nothing is counted
+row 0 'shanten 6 turns 3 unseen 123 chances none' '' study chances 147m258p369s1234z turns=3
+row 0 'shanten 6 turns 3 unseen 123 chances none
+  chances are counted to three-shanten, and for no more draws than there are tiles' '' study --explain chances 147m258p369s1234z turns=3
+# in words, and as objects
+row 0 'shanten 0 turns 2 unseen 123 ready 1/1 1.0000 most 1/1 1.0000 win 316/2501 0.1263 most 316/2501 0.1263
+  ready in 1.0000 of all draws, 1.0000 at most; won in 0.1263 of all draws, 0.1263 at most' '' study --explain chances 123456789m1134p turns=2
+told 'discards in words' '  after 6s: ready in 1.0000 of all draws, 1.0000 at most; won in 0.4462 of all draws, 0.4745 at most' \
+  "$("$program" study --explain chances 23678m23p1236789s turns=18 | sed -nE '/^  after 6s: /s/ready in [0-9.]+ of all draws, [0-9.]+/ready in 1.0000 of all draws, 1.0000/p')"
+row 0 '{"answer":"chances","shanten":0,"turns":2,"unseen":123,"counted":true,"ready":{"part":"1","whole":"1","chance":1.0000},"ready_at_most":{"part":"1","whole":"1","chance":1.0000},"win":{"part":"316","whole":"2501","chance":0.1263},"win_at_most":{"part":"316","whole":"2501","chance":0.1263}}' '' \
+  study --json chances 123456789m1134p turns=2
+told 'discards of chances as objects' "$("$program" study chances 23678m23p1236789s turns=6 | sed 's/ discard /\n/g' | sed -nE 's|^(..) .* win ([0-9]+)/([0-9]+) ([0-9.]+) .*|"discard":"\1" "win":{"part":"\2","whole":"\3","chance":\4}|p')" \
+  "$("$program" study --json chances 23678m23p1236789s turns=6 | grep -oE '"discard":"..",|"win":\{[^}]*\}' | paste -d ' ' - - | sed 's/, / /')"
+row 0 '{"answer":"chances","shanten":6,"turns":3,"unseen":123,"counted":false}' '' study --json chances 147m258p369s1234z turns=3
+row 1 'refused H6' '' study chances 123456789m1134p
+row 1 'refused H5' '' study chances 123456789m1134p turns=2 turns=3
+for value in 0 19 02 2x 100 ''; do
+  row 1 'refused H4' '' study chances 123456789m1134p turns=$value
+done
+row 1 'refused H4' '' study chances 123456789m1134p turns=2 order=good
+row 1 'refused H8' '' study chances 123456789m turns=2
 
 # what is refused: words that are no question's, values that say nothing, words that are missing, and a fifth tile
 for question in 'win 123m' 'waits 1112345678999m' "order=good"; do
