@@ -27,7 +27,7 @@ kept_there : (parts : ShapeParts) (discards : List Discard) → all_there (map (
 kept_there parts [] = refl
 kept_there parts (discard ∷ discards) = ap (λ (ps : List Prospect). prospect_of parts discard ∷ ps) (kept_there parts discards)
 
-shanten_is : (parts : ShapeParts) (answer : ShapeAnswer) → answer ≡ shape_answer_of parts → answer.shanten ≡ shanten_of parts.tiles parts.melds
+pub shanten_is : (parts : ShapeParts) (answer : ShapeAnswer) → answer ≡ shape_answer_of parts → answer.shanten ≡ shanten_of parts.tiles parts.melds
 unfolding shape_answer_of
 shanten_is parts answer e = ap (λ (a : ShapeAnswer). a.shanten) e
 
@@ -43,7 +43,7 @@ module _ (parts : ShapeParts) (shape : IsShape parts) where
         by_test true f = f
         by_test false f = absurd (never_thirteen parts answer list answer_is (other_size f) is)
 
-    not_thirteen : (list : List Discard) → answer.accepts ≡ Fourteen list → is_thirteen parts.tiles parts.melds ≡ false
+    pub not_thirteen : (list : List Discard) → answer.accepts ≡ Fourteen list → is_thirteen parts.tiles parts.melds ≡ false
     not_thirteen list is = by_test (is_thirteen parts.tiles parts.melds) refl
       where
         by_test : (t : Bool) → is_thirteen parts.tiles parts.melds ≡ t → is_thirteen parts.tiles parts.melds ≡ false

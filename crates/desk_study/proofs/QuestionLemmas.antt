@@ -1,5 +1,5 @@
 -- The answers to one more line.
-use Rattle.std.proofs.Common.{◌≡◌, ℕ, ◌+◌, ◌<◌, Bool, List, [], ◌∷◌, ◌++◌, Option, None, Some, Result, Ok, Err, length, refl, sym, ap, ◌∙◌, append_assoc, arith}
+use Rattle.std.proofs.Common.{◌≡◌, ℕ, ◌+◌, ◌<◌, Bool, List, [], ◌∷◌, ◌++◌, Option, None, Some, Result, Ok, Err, inl, inr, length, refl, sym, subst, ap, ◌∙◌, append_assoc, arith}
 use Rattle.std.proofs.lemmas.Bool.{lt-ltb}
 use Rattle.std.proofs.lemmas.List.{append-nil}
 use Rattle.std.specs.Prelude.{◌==◌, ◌&&◌, is_some, if◌then◌else◌, false}
@@ -20,7 +20,7 @@ use Rattle.desk_lines.proofs.AnswerLemmas.{same_as_told}
 use Rattle.desk_lines.proofs.TellingLemmas.{report_of_more}
 use Rattle.desk_study.specs.Answers.{question_answer, question_answers, question_kind, question_kinds, studied, studied_kind, number_asked}
 use Rattle.desk_study.specs.declared.form.StudiesManner.{StudiesManner}
-use Rattle.desk_study.specs.Tellers.{HasAnswered}
+use Rattle.desk_study.specs.Tellers.{HasAnswered, LineAsksChances}
 use Rattle.desk_study.specs.declared.questions.Questions.{Questions}
 
 -- ---- long lines, which are all answered alike
@@ -99,3 +99,10 @@ tells_more first now number line kind lines told report next kind_is counted as_
   where
     number_is : number ≡ 1 + length lines
     number_is = omega (arith, counted)
+
+-- ---- where memory is wanted
+
+-- a line that is answered as another asks for chances where that one does
+pub asks_too : (line next : List ℕ) → IsToldAs 4096 line next → LineAsksChances line → LineAsksChances next
+asks_too line next (inl e) asks = subst LineAsksChances e asks
+asks_too line next (inr long) asks = absurd (let no = sym (long_study line long.0) ∙ asks.1 in cc)

@@ -1,32 +1,46 @@
 -- Chances as the members of an object.
-use Rattle.std.specs.Prelude.{ℕ, ℤ, List, ◌++◌, codes, decimal, if◌then◌else◌, map}
+use Rattle.std.specs.Prelude.{ℕ, ℤ, List, ◌++◌, Option, None, Some, codes, decimal, if◌then◌else◌, map}
 use Rattle.std.specs.Fmt.{signed_decimal}
+use Rattle.std.specs.List.{filter_map}
 use Rattle.riichi_hand.specs.Hand.{is_thirteen}
 use Rattle.riichi_hand.specs.HandParts.{ShapeParts}
 use Rattle.riichi_text.specs.Tiles.{kind_text}
 use Rattle.riichi_shape.specs.EveryWinning.{shanten_of}
 use Rattle.riichi_chances.specs.Draws.{unseen_of}
-use Rattle.riichi_chances.specs.Odds.{odds_after, odds_of}
+use Rattle.riichi_chances.specs.Odds.{best_odds, odds_of}
+use Rattle.riichi_chances.specs.declared.odds.DiscardOdds.{DiscardOdds}
 use Rattle.riichi_chances.specs.declared.odds.Odds.{Odds}
 use Rattle.riichi_chances_text.specs.OddsTexts.{odds_members}
-use Rattle.riichi_study.specs.ChanceTexts.{are_counted, best_discards}
-use Rattle.desk_json.specs.Parts.{listed}
+use Rattle.riichi_study.specs.ChanceTexts.{are_counted, is_beaten}
+use Rattle.desk_json.specs.Parts.{listed, quoted_kind}
 
 -- the shanten, the turns that are to come, and how many tiles are unseen
 abbrev pub front_json : ℤ → ℕ → ℕ → List ℕ
 front_json shanten turns unseen =
     codes "\"answer\":\"chances\",\"shanten\":" ++ signed_decimal shanten ++ codes ",\"turns\":" ++ decimal turns ++ codes ",\"unseen\":" ++ decimal unseen ++ codes ",\"counted\":"
 
-abbrev pub after_json : ℕ → Odds → List ℕ
-after_json kind odds = codes "{\"discard\":\"" ++ kind_text kind ++ codes "\"," ++ odds_members odds ++ codes "}"
+-- a discard after which no play wins as often
+abbrev pub beaten_kind : Odds → DiscardOdds → Option ℕ
+beaten_kind odds other = if is_beaten odds other then Some other.kind else None
 
--- after each best discard
-abbrev pub each_json : ShapeParts → ℕ → List ℕ
-each_json parts turns = listed (map (λ kind. after_json kind (odds_after parts turns kind)) (best_discards parts))
+-- their kinds, with commas between them
+abbrev pub beaten_json : Odds → List DiscardOdds → List ℕ
+beaten_json odds others = listed (map quoted_kind (filter_map (λ kind. kind) (map (beaten_kind odds) others)))
+
+-- a discard, and what stands before those that it beats
+abbrev pub discard_json : DiscardOdds → List ℕ
+discard_json one = codes "{\"discard\":\"" ++ kind_text one.kind ++ codes "\"," ++ odds_members one.odds ++ codes ",\"surely_over\":["
+
+unfoldable pub after_json : List DiscardOdds → DiscardOdds → List ℕ
+after_json others one = discard_json one ++ beaten_json one.odds others ++ codes "]}"
+
+-- each of some discards
+abbrev pub each_json : List DiscardOdds → List ℕ
+each_json each = listed (map (after_json each) each)
 
 abbrev pub counted_json : ShapeParts → ℕ → List ℕ
 counted_json parts turns =
-    if is_thirteen parts.tiles parts.melds then codes "true," ++ odds_members (odds_of parts turns) else codes "true,\"discards\":[" ++ each_json parts turns ++ codes "]"
+    if is_thirteen parts.tiles parts.melds then codes "true," ++ odds_members (odds_of parts turns) else codes "true,\"discards\":[" ++ each_json (best_odds parts turns) ++ codes "]"
 
 abbrev pub chances_members : ShapeParts → ℕ → List ℕ
 chances_members parts turns =

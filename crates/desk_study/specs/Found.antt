@@ -1,19 +1,18 @@
 -- What is found of a question of chances, and what is told of it.
-use Rattle.std.specs.Prelude.{◌≡◌, ℕ, ◌<◌, ◌≤◌, Bool, true, false, List, [], ◌++◌, Option, None, Some, codes, length, map, slice_index_or}
+use Rattle.std.specs.Prelude.{◌≡◌, ℕ, ◌≤◌, Bool, true, false, List, [], ◌++◌, Option, None, Some, All, codes, length}
 use Rattle.std.specs.List.{flat_map}
 use Rattle.riichi_hand.specs.Hand.{is_thirteen}
 use Rattle.riichi_hand.specs.HandParts.{ShapeParts}
 use Rattle.riichi_shape.specs.EveryWinning.{shanten_of}
 use Rattle.riichi_chances.specs.Draws.{unseen_of}
-use Rattle.riichi_chances.specs.Odds.{ArePartsOfAll, all_odds_after, each_odds_at, odds_at, odds_of}
-use Rattle.riichi_chances.specs.declared.discards.DiscardChances.{DiscardChances}
+use Rattle.riichi_chances.specs.Odds.{ArePartsOfAll, best_odds, odds_of}
+use Rattle.riichi_chances.specs.declared.odds.DiscardOdds.{DiscardOdds}
 use Rattle.riichi_chances.specs.declared.odds.Odds.{Odds}
 use Rattle.riichi_chances_text.specs.OddsTexts.{odds_members, odds_text}
-use Rattle.riichi_study.specs.ChanceTexts.{after_reason, after_text, are_counted, best_discards, front_text, hand_odds_reason}
+use Rattle.riichi_study.specs.ChanceTexts.{after_reason, after_text, are_counted, front_text, hand_odds_reason}
 use Rattle.riichi_study.specs.declared.study.Study.{Study}
 use Rattle.riichi_study.specs.declared.study.Study.TheVariants as asks
-use Rattle.desk_json.specs.Parts.{listed}
-use Rattle.desk_study.specs.ChanceObjects.{after_json, front_json}
+use Rattle.desk_study.specs.ChanceObjects.{each_json, front_json}
 use Rattle.desk_study.specs.declared.form.StudiesForm.{StudiesForm}
 use Rattle.desk_study.specs.declared.form.StudiesForm.TheVariants.{Answers, Explained, Objects}
 use Rattle.desk_study.specs.declared.found.FoundChances.{FoundChances}
@@ -23,36 +22,29 @@ use Rattle.desk_study.specs.declared.found.FoundOdds.TheVariants.{Uncounted, Han
 -- ---- it is what the question asks
 
 -- the discards
-abbrev pub each_of : FoundOdds → List DiscardChances
+abbrev pub each_of : FoundOdds → List DiscardOdds
 each_of Uncounted = []
 each_of (Hand odds) = []
 each_of (Discards each) = each.items
 
 -- the odds after each discard are parts of some draws
-abbrev pub ArePartsOfEach : ℕ → List DiscardChances → Type 0
-ArePartsOfEach turns each = (place : ℕ) (one : DiscardChances) → place < length each → ArePartsOfAll (odds_at (slice_index_or each place one).chances turns)
+abbrev pub ArePartsOfEach : List DiscardOdds → Type 0
+ArePartsOfEach each = All (λ one. ArePartsOfAll one.odds) each
 
-abbrev pub AreParts : ℕ → FoundOdds → Type 0
-AreParts turns Uncounted = Unit {0}
-AreParts turns (Hand odds) = ArePartsOfAll odds
-AreParts turns (Discards each) = ArePartsOfEach turns each.items
-
--- the odds of thirteen tiles are
-abbrev pub IsPartsFirst : FoundOdds → Type 0
-IsPartsFirst Uncounted = Unit {0}
-IsPartsFirst (Hand odds) = ArePartsOfAll odds
-IsPartsFirst (Discards each) = Unit {0}
+abbrev pub AreParts : FoundOdds → Type 0
+AreParts Uncounted = Unit {0}
+AreParts (Hand odds) = ArePartsOfAll odds
+AreParts (Discards each) = ArePartsOfEach each.items
 
 pub record AreOfHand (parts : ShapeParts) (turns : ℕ) (odds : Odds) : Type 0 where
   pub counted : are_counted parts turns ≡ true
   pub thirteen : is_thirteen parts.tiles parts.melds ≡ true
   pub odds_are : odds ≡ odds_of parts turns
 
-pub record AreOfDiscards (parts : ShapeParts) (turns : ℕ) (each : List DiscardChances) : Type 0 where
+pub record AreOfDiscards (parts : ShapeParts) (turns : ℕ) (each : List DiscardOdds) : Type 0 where
   pub counted : are_counted parts turns ≡ true
   pub fourteen : is_thirteen parts.tiles parts.melds ≡ false
-  pub kinds_are : map (λ one. one.kind) each ≡ best_discards parts
-  pub odds_are : each_odds_at each turns ≡ all_odds_after parts turns
+  pub odds_are : each ≡ best_odds parts turns
 
 abbrev pub AreFound : ShapeParts → ℕ → FoundOdds → Type 0
 AreFound parts turns Uncounted = are_counted parts turns ≡ false
@@ -64,7 +56,7 @@ pub record IsFound (parts : ShapeParts) (turns : ℕ) (found : FoundChances) : T
   pub turns_are : found.turns ≡ turns
   pub unseen_are : found.unseen ≡ unseen_of parts
   pub are_found : AreFound parts turns found.odds
-  pub are_parts : AreParts turns found.odds
+  pub are_parts : AreParts found.odds
   pub few : length (each_of found.odds) ≤ 14
 
 -- ---- what is told of it
@@ -93,26 +85,18 @@ end_json (Hand odds) = codes "}"
 end_json (Discards each) = codes "]}"
 
 -- one of them, in a line or in words
-abbrev pub after_told : Bool → ℕ → Odds → List ℕ
-after_told false kind odds = after_text kind odds
-after_told true kind odds = after_reason kind odds
-
-abbrev pub one_told : Bool → ℕ → DiscardChances → List ℕ
-one_told in_words turns one = after_told in_words one.kind (odds_at one.chances turns)
-
-abbrev pub one_json : ℕ → DiscardChances → List ℕ
-one_json turns one = after_json one.kind (odds_at one.chances turns)
+abbrev pub one_told : Bool → List DiscardOdds → DiscardOdds → List ℕ
+one_told false others one = after_text one
+one_told true others one = after_reason others one
 
 abbrev pub found_text : FoundChances → List ℕ
-found_text found =
-    (front_text found.shanten found.turns found.unseen ++ first_text found.odds) ++ flat_map (one_told false found.turns) (each_of found.odds)
+found_text found = (front_text found.shanten found.turns found.unseen ++ first_text found.odds) ++ flat_map after_text (each_of found.odds)
 
 abbrev pub found_reasons : FoundChances → List ℕ
-found_reasons found = first_reason found.odds ++ flat_map (one_told true found.turns) (each_of found.odds)
+found_reasons found = first_reason found.odds ++ flat_map (after_reason (each_of found.odds)) (each_of found.odds)
 
 abbrev pub found_members : FoundChances → List ℕ
-found_members found =
-    (front_json found.shanten found.turns found.unseen ++ first_json found.odds) ++ listed (map (one_json found.turns) (each_of found.odds)) ++ end_json found.odds
+found_members found = (front_json found.shanten found.turns found.unseen ++ first_json found.odds) ++ (each_json (each_of found.odds) ++ end_json found.odds)
 
 abbrev pub found_told : StudiesForm → FoundChances → List ℕ
 found_told Answers found = found_text found

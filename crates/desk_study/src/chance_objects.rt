@@ -1,18 +1,19 @@
 //! The pieces of an object of chances.
-ghost use Rattle.std.specs.Prelude.{◌≡◌, ◌+◌, ◌≤◌, ◌++◌, ◌||◌};
+ghost use Rattle.std.specs.Prelude.{◌≡◌, ◌+◌, ◌*◌, ◌≤◌, ◌++◌, ◌||◌, length};
 ghost use Rattle.arrayvec.specs.ArrayString.{array_string_len};
 ghost use Rattle.riichi_chances.specs.Odds.{ArePartsOfAll};
-ghost use Rattle.desk_json.specs.Parts.{comma_if};
+ghost use Rattle.desk_json.specs.Parts.{comma_if, quoted_kind};
+ghost use Rattle.desk_study.specs.Answers.{listed_next, something_there};
 ghost use Rattle.desk_study.specs.ChanceObjects as objects;
 ghost use Rattle.desk_study.specs.Found as spec;
 
 use crate::found::FoundOdds;
 use crate::objects::push_comma_if;
+use crate::safe_objects::{MOST_QUOTED, push_quoted};
 use desk_json::{JSON_ROOM, JsonText};
-use riichi_chances::Odds;
+use riichi_chances::{DiscardOdds, Odds};
 use riichi_chances_text::{MOST_ODDS_MEMBERS, push_odds_members};
 use riichi_text::{MOST_I8, MOST_U8, push_kind, push_number};
-use riichi_tiles::Kind;
 
 /// The bytes of what stands before the chances.
 pub(crate) const MOST_FRONT: usize = "\"answer\":\"chances\",\"shanten\":".len()
@@ -26,8 +27,13 @@ pub(crate) const MOST_FRONT: usize = "\"answer\":\"chances\",\"shanten\":".len()
 /// The bytes of the chances of thirteen tiles, or of what stands before those of each discard.
 pub(crate) const MOST_FIRST: usize = "true,\"discards\":[".len() + MOST_ODDS_MEMBERS;
 
+/// The bytes of a discard before the others that it beats.
+const MOST_DISCARD: usize = ",{\"discard\":\"1m\",".len()
+    + MOST_ODDS_MEMBERS
+    + ",\"surely_over\":[".len();
+
 /// The bytes of the longest discard.
-pub(crate) const MOST_AFTER: usize = ",{\"discard\":\"1m\",".len() + MOST_ODDS_MEMBERS + "}".len();
+pub(crate) const MOST_AFTER: usize = MOST_DISCARD + 14 * MOST_QUOTED + "]}".len();
 
 /// Writes the shanten, the turns that are to come, and how many tiles are unseen.
 pub(crate) fn push_chances_front(text: &mut JsonText, shanten: i8, turns: u8, unseen: u8)
@@ -46,7 +52,7 @@ pub(crate) fn push_chances_front(text: &mut JsonText, shanten: i8, turns: u8, un
 
 /// Writes whether they are counted, and the chances of thirteen tiles.
 pub(crate) fn push_first(text: &mut JsonText, odds: &FoundOdds)
-    requires parts { spec.IsPartsFirst odds.now }
+    requires parts { spec.AreParts odds.now }
     requires room { array_string_len text.old + MOST_FIRST ≤ JSON_ROOM }
     ensures bytes { text.new.bytes ≡ text.old.bytes ++ spec.first_json odds.now }
     ensures len { array_string_len text.new ≤ array_string_len text.old + MOST_FIRST }
@@ -61,20 +67,64 @@ pub(crate) fn push_first(text: &mut JsonText, odds: &FoundOdds)
     }
 }
 
-/// Writes the chances after a discard, behind a comma where it is not the first.
-pub(crate) fn push_after(text: &mut JsonText, later: bool, kind: Kind, odds: &Odds)
-    requires parts { ArePartsOfAll odds.now }
+/// Writes the chances after a discard, and after which of the others no play wins as often, behind a comma where it is not the first.
+pub(crate) fn push_after(text: &mut JsonText, later: bool, others: &[DiscardOdds], one: &DiscardOdds)
+    requires parts { ArePartsOfAll one.now.odds }
+    requires few { length others.now ≤ 14 }
     requires room { array_string_len text.old + MOST_AFTER ≤ JSON_ROOM }
     ensures bytes { text.new.bytes
-        ≡ text.old.bytes ++ (comma_if later ++ objects.after_json kind odds.now) }
+        ≡ text.old.bytes ++ (comma_if later ++ objects.after_json others.now one.now) }
     ensures len { array_string_len text.new ≤ array_string_len text.old + MOST_AFTER }
+{
+    push_discard(text, later, one);
+    push_beaten(text, &one.odds, others);
+    text.push_str("]}");
+}
+
+/// Writes the chances after a discard, and what stands before the other discards.
+fn push_discard(text: &mut JsonText, later: bool, one: &DiscardOdds)
+    requires parts { ArePartsOfAll one.now.odds }
+    requires room { array_string_len text.old + MOST_AFTER ≤ JSON_ROOM }
+    ensures bytes { text.new.bytes
+        ≡ (text.old.bytes ++ comma_if later) ++ objects.discard_json one.now }
+    ensures len { array_string_len text.new ≤ array_string_len text.old + MOST_DISCARD }
 {
     push_comma_if(text, later);
     text.push_str("{\"discard\":\"");
-    push_kind(text, kind);
+    push_kind(text, one.kind);
     text.push_str("\",");
-    push_odds_members(text, odds);
-    text.push_str("}");
+    push_odds_members(text, &one.odds);
+    text.push_str(",\"surely_over\":[");
+}
+
+/// Writes the kinds of the others after which no play wins as often.
+fn push_beaten(text: &mut JsonText, odds: &Odds, others: &[DiscardOdds])
+    requires { array_string_len text.old + MOST_QUOTED * length others.now ≤ JSON_ROOM }
+    ensures bytes { text.new.bytes ≡ text.old.bytes ++ objects.beaten_json odds.now others.now }
+    ensures len { array_string_len text.new
+        ≤ array_string_len text.old + MOST_QUOTED * length others.now }
+{
+    let mut later = false;
+    for other in others {
+        later = push_if_beaten(text, later, odds, other);
+    }
+}
+
+/// Writes the kind of another discard, where no play wins as often after it, behind a comma where it is not the first: whether one
+/// stands there now.
+fn push_if_beaten(text: &mut JsonText, later: bool, odds: &Odds, other: &DiscardOdds) -> bool
+    requires { array_string_len text.old + MOST_QUOTED ≤ JSON_ROOM }
+    ensures bytes { text.new.bytes ≡ text.old.bytes
+        ++ listed_next quoted_kind later (objects.beaten_kind odds.now other.now) }
+    ensures later { result
+        ≡ later || something_there (objects.beaten_kind odds.now other.now) }
+    ensures len { array_string_len text.new ≤ array_string_len text.old + MOST_QUOTED }
+{
+    if !odds.wins_surely_over(&other.odds) {
+        return later;
+    }
+    push_quoted(text, later, other.kind);
+    true
 }
 
 /// Writes what ends the object.

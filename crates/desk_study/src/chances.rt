@@ -1,10 +1,11 @@
 //! Answers to questions of chances.
-ghost use Rattle.std.specs.Prelude.{◌≡◌, ◌+◌, ◌*◌, ◌≤◌, ◌++◌, length, map};
+ghost use Rattle.std.specs.Prelude.{◌≡◌, ◌+◌, ◌*◌, ◌≤◌, ◌++◌, length};
 ghost use Rattle.std.specs.List.{flat_map};
 ghost use Rattle.arrayvec.specs.ArrayString.{array_string_len};
-ghost use Rattle.riichi_chances.specs.Odds.{ArePartsOfAll, odds_at};
-ghost use Rattle.desk_json.specs.Parts.{comma_if, listed};
+ghost use Rattle.riichi_chances.specs.Odds.{ArePartsOfAll};
+ghost use Rattle.desk_json.specs.Parts.{comma_if};
 ghost use Rattle.desk_study.specs.Answers as room;
+ghost use Rattle.desk_study.specs.ChanceObjects as objects;
 ghost use Rattle.desk_study.specs.Found as spec;
 
 use crate::chance_objects::{
@@ -15,10 +16,10 @@ use crate::form::StudiesForm;
 use crate::found::{FoundChances, FoundOdds};
 use crate::puts::{put_object_piece, put_piece};
 use desk_lines::Outbox;
-use riichi_chances::DiscardChances;
+use riichi_chances::DiscardOdds;
 use riichi_chances_text::{MOST_ODDS, push_odds};
 use riichi_study::{
-    MOST_AFTER, MOST_AFTER_REASON, MOST_CHANCES_FRONT, Turns, push_after, push_after_reason,
+    MOST_AFTER, MOST_AFTER_REASON, MOST_CHANCES_FRONT, push_after, push_after_reason,
     push_chances_front, push_hand_odds_reason,
 };
 use riichi_text::{ANSWER_ROOM, AnswerText};
@@ -42,7 +43,7 @@ const MOST_ANSWER: usize = MOST_LINE + MOST_WORDS + MOST_MEMBERS;
 
 /// Puts what is found of a question of chances.
 pub(crate) fn put_chances(form: StudiesForm, found: &FoundChances, outbox: &mut Outbox)
-    requires parts { spec.AreParts found.now.turns found.now.odds }
+    requires parts { spec.AreParts found.now.odds }
     requires few { length (spec.each_of found.now.odds) ≤ 14 }
     requires room { room.HasRoomFor MOST_ANSWER outbox.old }
     ensures bytes { outbox.new.bytes.items
@@ -61,7 +62,7 @@ pub(crate) fn put_chances(form: StudiesForm, found: &FoundChances, outbox: &mut 
 
 /// Puts the line of the answer.
 fn put_line(found: &FoundChances, outbox: &mut Outbox)
-    requires parts { spec.AreParts found.now.turns found.now.odds }
+    requires parts { spec.AreParts found.now.odds }
     requires few { length (spec.each_of found.now.odds) ≤ 14 }
     requires room { room.HasRoomFor MOST_LINE outbox.old }
     ensures bytes { outbox.new.bytes.items ≡ outbox.old.bytes.items ++ spec.found_text found.now }
@@ -71,12 +72,12 @@ fn put_line(found: &FoundChances, outbox: &mut Outbox)
     push_chances_front(&mut outbox.text, found.shanten, found.turns.count(), found.unseen);
     push_first_text(&mut outbox.text, &found.odds);
     put_piece(outbox);
-    put_each(false, found.turns, found.odds.discards(), outbox);
+    put_each(false, found.odds.discards(), outbox);
 }
 
 /// Puts the lines in words.
 fn put_words(found: &FoundChances, outbox: &mut Outbox)
-    requires parts { spec.AreParts found.now.turns found.now.odds }
+    requires parts { spec.AreParts found.now.odds }
     requires few { length (spec.each_of found.now.odds) ≤ 14 }
     requires room { room.HasRoomFor MOST_WORDS outbox.old }
     ensures bytes { outbox.new.bytes.items
@@ -86,12 +87,12 @@ fn put_words(found: &FoundChances, outbox: &mut Outbox)
     outbox.text.clear();
     push_first_reason(&mut outbox.text, &found.odds);
     put_piece(outbox);
-    put_each(true, found.turns, found.odds.discards(), outbox);
+    put_each(true, found.odds.discards(), outbox);
 }
 
 /// Writes the chances of thirteen tiles, or that none are counted.
 fn push_first_text(text: &mut AnswerText, odds: &FoundOdds)
-    requires parts { spec.IsPartsFirst odds.now }
+    requires parts { spec.AreParts odds.now }
     requires room { array_string_len text.old + MOST_ODDS ≤ ANSWER_ROOM }
     ensures bytes { text.new.bytes ≡ text.old.bytes ++ spec.first_text odds.now }
     ensures len { array_string_len text.new ≤ array_string_len text.old + MOST_ODDS }
@@ -105,7 +106,7 @@ fn push_first_text(text: &mut AnswerText, odds: &FoundOdds)
 
 /// Writes the same in words.
 fn push_first_reason(text: &mut AnswerText, odds: &FoundOdds)
-    requires parts { spec.IsPartsFirst odds.now }
+    requires parts { spec.AreParts odds.now }
     requires room { array_string_len text.old + MOST_UNCOUNTED + MOST_AFTER_REASON ≤ ANSWER_ROOM }
     ensures bytes { text.new.bytes ≡ text.old.bytes ++ spec.first_reason odds.now }
     ensures len { array_string_len text.new
@@ -121,40 +122,41 @@ fn push_first_reason(text: &mut AnswerText, odds: &FoundOdds)
 }
 
 /// Puts the chances after each discard, in the line or in words.
-fn put_each(in_words: bool, turns: Turns, each: &[DiscardChances], outbox: &mut Outbox)
-    requires parts { spec.ArePartsOfEach turns each.now }
+fn put_each(in_words: bool, each: &[DiscardOdds], outbox: &mut Outbox)
+    requires parts { spec.ArePartsOfEach each.now }
+    requires few { length each.now ≤ 14 }
     requires room { room.HasRoomFor (length each.now * MOST_AFTER) outbox.old }
     ensures bytes { outbox.new.bytes.items
-        ≡ outbox.old.bytes.items ++ flat_map (spec.one_told in_words turns) each.now }
+        ≡ outbox.old.bytes.items ++ flat_map (spec.one_told in_words each.now) each.now }
     ensures room { length outbox.new.bytes.items
         ≤ length outbox.old.bytes.items + length each.now * MOST_AFTER }
 {
     for one in each {
-        put_after(in_words, turns, one, outbox);
+        put_after(in_words, each, one, outbox);
     }
 }
 
 /// Puts the chances after a discard.
-fn put_after(in_words: bool, turns: Turns, one: &DiscardChances, outbox: &mut Outbox)
-    requires parts { ArePartsOfAll (odds_at one.now.chances turns) }
+fn put_after(in_words: bool, others: &[DiscardOdds], one: &DiscardOdds, outbox: &mut Outbox)
+    requires parts { ArePartsOfAll one.now.odds }
+    requires few { length others.now ≤ 14 }
     requires room { room.HasRoomFor MOST_AFTER outbox.old }
     ensures bytes { outbox.new.bytes.items
-        ≡ outbox.old.bytes.items ++ spec.one_told in_words turns one.now }
+        ≡ outbox.old.bytes.items ++ spec.one_told in_words others.now one.now }
     ensures room { length outbox.new.bytes.items ≤ length outbox.old.bytes.items + MOST_AFTER }
 {
-    let odds = one.chances.at(turns.count());
     outbox.text.clear();
     if in_words {
-        push_after_reason(&mut outbox.text, one.kind, &odds);
+        push_after_reason(&mut outbox.text, others, one);
     } else {
-        push_after(&mut outbox.text, one.kind, &odds);
+        push_after(&mut outbox.text, one);
     }
     put_piece(outbox);
 }
 
 /// Puts the members of the answer's object.
 fn put_members(found: &FoundChances, outbox: &mut Outbox)
-    requires parts { spec.AreParts found.now.turns found.now.odds }
+    requires parts { spec.AreParts found.now.odds }
     requires few { length (spec.each_of found.now.odds) ≤ 14 }
     requires room { room.HasRoomFor MOST_MEMBERS outbox.old }
     ensures bytes { outbox.new.bytes.items
@@ -166,37 +168,39 @@ fn put_members(found: &FoundChances, outbox: &mut Outbox)
     push_members_front(&mut outbox.object, found.shanten, found.turns.count(), found.unseen);
     push_first(&mut outbox.object, &found.odds);
     put_object_piece(outbox);
-    put_each_member(found.turns, found.odds.discards(), outbox);
+    put_each_member(found.odds.discards(), outbox);
     outbox.object.clear();
     push_end(&mut outbox.object, &found.odds);
     put_object_piece(outbox);
 }
 
 /// Puts the chances after each discard, with commas between them.
-fn put_each_member(turns: Turns, each: &[DiscardChances], outbox: &mut Outbox)
-    requires parts { spec.ArePartsOfEach turns each.now }
+fn put_each_member(each: &[DiscardOdds], outbox: &mut Outbox)
+    requires parts { spec.ArePartsOfEach each.now }
+    requires few { length each.now ≤ 14 }
     requires room { room.HasRoomFor (length each.now * MOST_MEMBER) outbox.old }
     ensures bytes { outbox.new.bytes.items
-        ≡ outbox.old.bytes.items ++ listed (map (spec.one_json turns) each.now) }
+        ≡ outbox.old.bytes.items ++ objects.each_json each.now }
     ensures room { length outbox.new.bytes.items
         ≤ length outbox.old.bytes.items + length each.now * MOST_MEMBER }
 {
     let mut later = false;
     for one in each {
-        put_member(later, turns, one, outbox);
+        put_member(later, each, one, outbox);
         later = true;
     }
 }
 
 /// Puts the chances after a discard, behind a comma where it is not the first.
-fn put_member(later: bool, turns: Turns, one: &DiscardChances, outbox: &mut Outbox)
-    requires parts { ArePartsOfAll (odds_at one.now.chances turns) }
+fn put_member(later: bool, others: &[DiscardOdds], one: &DiscardOdds, outbox: &mut Outbox)
+    requires parts { ArePartsOfAll one.now.odds }
+    requires few { length others.now ≤ 14 }
     requires room { room.HasRoomFor MOST_MEMBER outbox.old }
     ensures bytes { outbox.new.bytes.items
-        ≡ outbox.old.bytes.items ++ (comma_if later ++ spec.one_json turns one.now) }
+        ≡ outbox.old.bytes.items ++ (comma_if later ++ objects.after_json others.now one.now) }
     ensures room { length outbox.new.bytes.items ≤ length outbox.old.bytes.items + MOST_MEMBER }
 {
     outbox.object.clear();
-    push_member(&mut outbox.object, later, one.kind, &one.chances.at(turns.count()));
+    push_member(&mut outbox.object, later, others, one);
     put_object_piece(outbox);
 }

@@ -1,11 +1,10 @@
 //! What is found of a question of chances, before any of it is put.
 ghost use Rattle.std.specs.Prelude.{◌≡◌, ◌≤◌, ◌-ℤ◌, ◌&&◌, ℕ, IfOk, length, nat_le, pos, true};
-ghost use Rattle.riichi_chances.specs.Draws.{unseen_of};
 ghost use Rattle.riichi_shape.specs.Answer.{shape_answer_of};
 ghost use Rattle.riichi_study.specs.ChanceTexts.{are_counted};
 ghost use Rattle.desk_study.specs.Found as spec;
 
-use riichi_chances::{ChancesFault, DiscardChances, Odds, chances_of, discard_chances, unseen_tiles};
+use riichi_chances::{ChancesFault, DiscardOdds, Odds, chances_of, discard_odds, unseen_tiles};
 use riichi_hand::ShapeRecord;
 use riichi_shape::{Accepts, RowSource, ShapeAnswer, shape_with};
 use riichi_study::Turns;
@@ -22,12 +21,12 @@ pub(crate) enum FoundOdds {
     /// Of thirteen tiles.
     Hand(Odds),
     /// Of fourteen tiles, after each of their best discards.
-    Discards(Vec<DiscardChances>),
+    Discards(Vec<DiscardOdds>),
 }
 
 impl FoundOdds {
     /// The discards.
-    pub fn discards(&self) -> &[DiscardChances]
+    pub fn discards(&self) -> &[DiscardOdds]
         ensures { result.now ≡ spec.each_of self.now }
     {
         match self {
@@ -89,9 +88,8 @@ fn count<S: RowSource>(
 ) -> Result<FoundOdds, AllocError>
     requires answer { answer.now ≡ shape_answer_of hand.now }
     requires counted { are_counted hand.now turns ≡ true }
-    requires few { turns ≤ unseen_of hand.now }
     ensures found { IfOk result (spec.AreFound hand.now turns) }
-    ensures parts { IfOk result (spec.AreParts turns) }
+    ensures parts { IfOk result spec.AreParts }
     ensures few { IfOk result (λ odds. length (spec.each_of odds) ≤ 14) }
 {
     match count_all(alloc, source, hand, turns, answer) {
@@ -110,9 +108,8 @@ fn count_all<S: RowSource>(
 ) -> Result<FoundOdds, ChancesFault>
     requires answer { answer.now ≡ shape_answer_of hand.now }
     requires counted { are_counted hand.now turns ≡ true }
-    requires few { turns ≤ unseen_of hand.now }
     ensures found { IfOk result (spec.AreFound hand.now turns) }
-    ensures parts { IfOk result (spec.AreParts turns) }
+    ensures parts { IfOk result spec.AreParts }
     ensures few { IfOk result (λ odds. length (spec.each_of odds) ≤ 14) }
 {
     let _shape = hand.tiles();
@@ -125,7 +122,7 @@ fn count_all<S: RowSource>(
         }
         Accepts::Fourteen(discards) => {
             let _few = discards.len();
-            let each = discard_chances(alloc, source, hand, draws, usize::MAX)?;
+            let each = discard_odds(alloc, source, hand, draws, usize::MAX)?;
             Ok(FoundOdds::Discards(each))
         }
     }

@@ -159,6 +159,7 @@ impl Teller for Questions {
         outbox: &mut Outbox,
         source: &mut S,
     ) -> Result<LineKind, AllocError> {
-        self.take(number, line, outbox, source)
+        let kind = self.take(number, line, outbox, source)?;
+        Ok(kind)
     }
 }

@@ -12,7 +12,7 @@ use riichi_study::{has_two_sided, is_risk, state_word};
 use riichi_text::push_kind;
 use riichi_tiles::{Kind, KindSet};
 
-const MOST_QUOTED: usize = ",\"1m\"".len();
+pub(crate) const MOST_QUOTED: usize = ",\"1m\"".len();
 
 const MOST_SET: usize = 34 * MOST_QUOTED;
 
@@ -36,7 +36,7 @@ const MOST_BEHIND: usize = "],\"furiten\":".len() + MOST_FURITEN + "}".len();
 pub(crate) const MOST_MEMBERS: usize = MOST_FRONT + MOST_WAITS + MOST_BEHIND;
 
 /// Writes a kind in quotes, behind a comma where it is not the first.
-fn push_quoted(text: &mut JsonText, later: bool, kind: Kind)
+pub(crate) fn push_quoted(text: &mut JsonText, later: bool, kind: Kind)
     requires { array_string_len text.old + MOST_QUOTED ≤ JSON_ROOM }
     ensures bytes { text.new.bytes
         ≡ (text.old.bytes ++ comma_if later) ++ quoted_kind kind }

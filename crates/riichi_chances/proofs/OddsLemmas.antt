@@ -1,7 +1,8 @@
 -- The chances of one number of turns, by those of all.
 use Rattle.std.proofs.Common.{◌≡◌, ℕ, zero, suc, ◌-◌, ◌*◌, ◌<◌, ◌≤◌, List, [], ◌∷◌, length, map, refl, sym, subst, ap, ◌∙◌, arith}
 use Rattle.std.proofs.lemmas.List.{get_or-map, length-map}
-use Rattle.std.specs.Prelude.{slice_index, slice_index_or}
+use Rattle.std.proofs.lemmas.List.Elements.{All-from_get_or, All-map}
+use Rattle.std.specs.Prelude.{All, slice_index, slice_index_or}
 use Rattle.riichi_hand.specs.HandParts.{ShapeParts}
 use Rattle.riichi_shape.specs.Choosing.{LeavesLeast}
 use Rattle.riichi_shape.specs.Discards.{discards_of}
@@ -11,9 +12,10 @@ use Rattle.riichi_chances.specs.Chances.{AreAfter, AreAfterAtMost, AreAtMost, Ar
 use Rattle.riichi_chances.specs.Draws.{all_draws, unseen_of}
 use Rattle.riichi_chances.specs.Graph.{discard_kinds}
 use Rattle.riichi_chances.specs.Laws.{IsFourteen}
-use Rattle.riichi_chances.specs.Odds.{ArePartsOfAll, all_odds_after, each_odds_at, odds_after, odds_at, odds_by, odds_of}
+use Rattle.riichi_chances.specs.Odds.{ArePartsOfAll, after_discard, best_odds, each_odds_at, odds_after, odds_at, odds_by, odds_of}
 use Rattle.riichi_chances.specs.declared.chances.Chances.{Chances}
 use Rattle.riichi_chances.specs.declared.discards.DiscardChances.{DiscardChances}
+use Rattle.riichi_chances.specs.declared.odds.DiscardOdds.{DiscardOdds}
 use Rattle.riichi_chances.specs.declared.odds.Odds.{Odds}
 use Rattle.riichi_chances.proofs.CountedLemmas.{discard_unseen}
 use Rattle.riichi_chances.proofs.CountingLemmas.{best_listed}
@@ -33,18 +35,21 @@ pub thirteen_odds : (parts : ShapeParts) (turns : ℕ) (chances : Chances) → A
 unfolding odds_of
 thirteen_odds parts = by_chances parts parts
 
-same_each : (each : List DiscardChances) (kinds : List ℕ) (value : DiscardChances → Odds) (wanted : ℕ → Odds) → map (λ (one : DiscardChances). one.kind) each ≡ kinds → ((place : ℕ) (one : DiscardChances) → place < length each → value (slice_index_or each place one) ≡ wanted (slice_index_or each place one).kind) → map value each ≡ map wanted kinds
+same_each : (each : List DiscardChances) (kinds : List ℕ) (value : DiscardChances → Odds) (wanted : ℕ → Odds) → map (λ (one : DiscardChances). one.kind) each ≡ kinds → ((place : ℕ) (one : DiscardChances) → place < length each → value (slice_index_or each place one) ≡ wanted (slice_index_or each place one).kind)
+    → map (λ (one : DiscardChances). after_discard one.kind (value one)) each ≡ map (λ kind. after_discard kind (wanted kind)) kinds
 same_each [] [] value wanted e same = refl
 same_each [] (kind ∷ kinds) value wanted e same = absurd (cc)
 same_each (one ∷ each) [] value wanted e same = absurd (cc)
 same_each (one ∷ each) (kind ∷ kinds) value wanted e same =
     let here : one.kind ≡ kind = cc in
     let others : map (λ (it : DiscardChances). it.kind) each ≡ kinds = cc in
-    ap (λ (first : Odds). first ∷ map value each) (same 0 one (omega arith) ∙ ap wanted here) ∙ ap (λ (rest : List Odds). wanted kind ∷ rest) (same_each each kinds value wanted others (λ place it low. same (suc place) it (omega (arith, low))))
+    ap (λ (odds : Odds). after_discard one.kind odds ∷ map (λ (it : DiscardChances). after_discard it.kind (value it)) each) (same 0 one (omega arith) ∙ ap wanted here)
+    ∙ ap (λ (k : ℕ). after_discard k (wanted kind) ∷ map (λ (it : DiscardChances). after_discard it.kind (value it)) each) here
+    ∙ ap (λ (rest : List DiscardOdds). after_discard kind (wanted kind) ∷ rest) (same_each each kinds value wanted others (λ place it low. same (suc place) it (omega (arith, low))))
 
 -- after each best discard of fourteen tiles
-pub fourteen_odds : (drawn : ShapeParts) (turns : ℕ) (each : List DiscardChances) → map (λ (one : DiscardChances). one.kind) each ≡ discard_kinds (discards_of drawn.tiles drawn.melds drawn.seen) → AreAfter drawn turns each → AreAfterAtMost drawn turns each → each_odds_at each turns ≡ all_odds_after drawn turns
-unfolding odds_after
+pub fourteen_odds : (drawn : ShapeParts) (turns : ℕ) (each : List DiscardChances) → map (λ (one : DiscardChances). one.kind) each ≡ discard_kinds (discards_of drawn.tiles drawn.melds drawn.seen) → AreAfter drawn turns each → AreAfterAtMost drawn turns each → each_odds_at each turns ≡ best_odds drawn turns
+unfolding odds_after best_odds
 fourteen_odds drawn turns each kinds are most =
     same_each each (discard_kinds (discards_of drawn.tiles drawn.melds drawn.seen)) (λ (one : DiscardChances). odds_at one.chances turns) (odds_after drawn turns) kinds
     (λ place one low. by_chances (parts_without drawn (slice_index_or each place one).kind) (parts_told drawn (slice_index_or each place one).kind) turns (slice_index_or each place one).chances (are place one low) (most place one low))
@@ -90,6 +95,10 @@ fourteen_parts drawn turns each is kinds are most few place one low =
     best : LeavesLeast drawn.tiles drawn.melds kind
     best = subst (LeavesLeast drawn.tiles drawn.melds) kind_is (best_listed drawn discards place refl inside)
 
--- there are as many as discards
-pub as_many_odds : (drawn : ShapeParts) (each : List DiscardChances) → map (λ (one : DiscardChances). one.kind) each ≡ discard_kinds (discards_of drawn.tiles drawn.melds drawn.seen) → length each ≡ length (discards_of drawn.tiles drawn.melds drawn.seen)
-as_many_odds drawn each kinds = omega (arith, length-map each (λ (it : DiscardChances). it.kind), ap length kinds, length-map (discards_of drawn.tiles drawn.melds drawn.seen) (λ (discard : Discard). discard.kind))
+pub each_parts : (drawn : ShapeParts) (turns : ℕ) (each : List DiscardChances) → IsFourteen drawn → map (λ (one : DiscardChances). one.kind) each ≡ discard_kinds (discards_of drawn.tiles drawn.melds drawn.seen) → AreAfter drawn turns each → AreAfterAtMost drawn turns each → turns ≤ unseen_of drawn
+    → All (λ (one : DiscardOdds). ArePartsOfAll one.odds) (each_odds_at each turns)
+each_parts drawn turns each is kinds are most few = All-map (λ (one : DiscardOdds). ArePartsOfAll one.odds) (λ (one : DiscardChances). after_discard one.kind (odds_at one.chances turns)) each (every each (fourteen_parts drawn turns each is kinds are most few))
+  where
+    every : (some : List DiscardChances) → ((place : ℕ) (one : DiscardChances) → place < length some → ArePartsOfAll (odds_at (slice_index_or some place one).chances turns)) → All (λ (one : DiscardChances). ArePartsOfAll (odds_at one.chances turns)) some
+    every [] at = search
+    every (one ∷ some) at = All-from_get_or (λ (it : DiscardChances). ArePartsOfAll (odds_at it.chances turns)) (one ∷ some) one (λ place low. at place one low)

@@ -1,5 +1,5 @@
 -- The chances of one number of turns.
-use Rattle.std.specs.Prelude.{ℕ, ◌<◌, ◌≤◌, List, map, slice_index}
+use Rattle.std.specs.Prelude.{ℕ, ◌<◌, ◌≤◌, Bool, List, map, nat_lt, slice_index}
 use Rattle.riichi_hand.specs.HandParts.{ShapeParts}
 use Rattle.riichi_shape.specs.Discards.{discards_of}
 use Rattle.riichi_deeper.specs.Drawn.{parts_without}
@@ -9,6 +9,7 @@ use Rattle.riichi_chances.specs.Draws.{all_draws, draws, unseen_of}
 use Rattle.riichi_chances.specs.Graph.{discard_kinds}
 use Rattle.riichi_chances.specs.declared.chances.Chances.{Chances}
 use Rattle.riichi_chances.specs.declared.discards.DiscardChances.{DiscardChances}
+use Rattle.riichi_chances.specs.declared.odds.DiscardOdds.{DiscardOdds}
 use Rattle.riichi_chances.specs.declared.odds.Odds.{Odds}
 
 -- they are parts of some draws
@@ -46,9 +47,17 @@ odds_of parts turns = odds_by parts parts turns
 unfoldable pub odds_after : ShapeParts → ℕ → ℕ → Odds
 odds_after drawn turns kind = odds_by (parts_without drawn kind) (parts_told drawn kind) turns
 
--- of each best discard of fourteen tiles
-abbrev pub all_odds_after : ShapeParts → ℕ → List Odds
-all_odds_after drawn turns = map (odds_after drawn turns) (discard_kinds (discards_of drawn.tiles drawn.melds drawn.seen))
+-- ---- of each best discard of fourteen tiles
 
-abbrev pub each_odds_at : List DiscardChances → ℕ → List Odds
-each_odds_at each turns = map (λ one. odds_at one.chances turns) each
+abbrev pub after_discard : ℕ → Odds → DiscardOdds
+after_discard kind odds = record { kind = kind; odds = odds }
+
+unfoldable pub best_odds : ShapeParts → ℕ → List DiscardOdds
+best_odds drawn turns = map (λ kind. after_discard kind (odds_after drawn turns kind)) (discard_kinds (discards_of drawn.tiles drawn.melds drawn.seen))
+
+abbrev pub each_odds_at : List DiscardChances → ℕ → List DiscardOdds
+each_odds_at each turns = map (λ one. after_discard one.kind (odds_at one.chances turns)) each
+
+-- a play reaches more than any play does after another discard
+abbrev pub is_surely_over : Odds → Odds → Bool
+is_surely_over odds other = nat_lt other.win_at_most odds.win

@@ -5,7 +5,8 @@ ghost use Rattle.riichi_shape.specs.Discards.{discards_of};
 ghost use Rattle.riichi_shape.specs.EveryWinning.{distance_of};
 ghost use Rattle.riichi_deeper.specs.Drawn.{parts_without};
 ghost use Rattle.riichi_chances.specs.Chances as spec;
-ghost use Rattle.riichi_chances.specs.Draws.{is_there};
+ghost use Rattle.riichi_chances.specs.Draws.{is_there, unseen_of};
+ghost use Rattle.riichi_chances.specs.Odds.{ArePartsOfAll, best_odds, each_odds_at};
 ghost use Rattle.riichi_chances.specs.Reachable.{ComesToFew, ComesToMore, HandGroup, OnTooMany, by_itself, groups_of, together};
 
 use crate::building::places_of;
@@ -13,6 +14,7 @@ use crate::chances::{Chances, by_turns, chances_of};
 use crate::fault::ChancesFault;
 use crate::goal::is_won;
 use crate::graph::Graph;
+use crate::odds::DiscardOdds;
 use crate::unseen::unseen_tiles;
 use riichi_deeper::without_tile;
 use riichi_hand::ShapeRecord;
@@ -164,4 +166,47 @@ fn keep(each: &mut Vec<DiscardChances>, one: DiscardChances) -> Result<(), Alloc
 {
     each.push(one)?;
     Ok(())
+}
+
+/// Those of one number of turns after each best discard, in the same order.
+pub fn discard_odds<R: RowSource>(
+    alloc: Global,
+    source: &mut R,
+    asked: &ShapeRecord,
+    turns: u8,
+    most_hands: usize,
+) -> Result<Vec<DiscardOdds>, ChancesFault>
+    requires fourteen { size asked.now.tiles asked.now.melds ≡ 14 }
+    requires turns { turns ≤ 18 }
+    ensures value { IfOk result (λ each. each.items ≡ best_odds asked.now turns) }
+    ensures parts { turns ≤ unseen_of asked.now
+        → IfOk result (λ each. All (λ one. ArePartsOfAll one.odds) each.items) }
+    ensures few { OnOk result (All (ComesToFew most_hands) (groups_of asked.now)) }
+    ensures many { OnTooMany result
+        ((group : HandGroup) × Contains (groups_of asked.now) group × ComesToMore most_hands group) }
+    ensures stays { source.new ≡ source.old }
+{
+    let _unseen = unseen_tiles(asked);
+    let each = discard_chances(alloc, source, asked, turns, most_hands)?;
+    let odds = each_at(alloc, each.as_slice(), turns)?;
+    Ok(odds)
+}
+
+/// Of each those of one number of turns.
+fn each_at(
+    alloc: Global,
+    each: &[DiscardChances],
+    turns: u8,
+) -> Result<Vec<DiscardOdds>, AllocError>
+    requires { turns ≤ 18 }
+    ensures { IfOk result (λ odds. odds.items ≡ each_odds_at each.now turns) }
+{
+    let mut odds = Vec::new(alloc);
+    for one in each {
+        odds.push(DiscardOdds {
+            kind: one.kind,
+            odds: one.chances.at(turns),
+        })?;
+    }
+    Ok(odds)
 }

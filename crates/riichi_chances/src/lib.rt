@@ -17,7 +17,7 @@
 //! A call takes memory for its hands, some three kilobytes each, and refuses what may come to more of them than it is told
 //! ([`ChancesFault`]). It never tells another number, and it refuses nothing that comes to no more.
 //!
-//! [`Chances::at`] are those of one number of turns, [`Odds`]. A [`Fraction`] of such numbers is told in lowest terms, or in ten thousandths.
+//! [`Chances::at`] are those of one number of turns, [`Odds`], and [`discard_odds`] those after each best discard. A [`Fraction`] of such numbers is told in lowest terms, or in ten thousandths.
 //!
 //! So `234m45678p34s558s`, of 123 unseen tiles, is ready by the next draw in 20 of 123 cases, and wins by two draws in 165 of
 //! 15,006.
@@ -40,10 +40,10 @@ mod tiles;
 mod unseen;
 
 pub use chances::{Chances, chances_of};
-pub use discards::{DiscardChances, discard_chances};
+pub use discards::{DiscardChances, discard_chances, discard_odds};
 pub use fault::ChancesFault;
 pub use fraction::Fraction;
 pub use goal::Goal;
-pub use odds::Odds;
+pub use odds::{DiscardOdds, Odds};
 pub use span::MOST_TURNS;
 pub use unseen::unseen_tiles;

@@ -7,6 +7,6 @@ use Rattle.desk_study.proofs.chances.put_each.Given as goal
 -- those so far are put
 abbrev pub invariant-loop-one : goal.invariant-loop-one
 invariant-loop-one l = record {
-  bytes : l.outbox.bytes.items ≡ l.initial.outbox.bytes.items ++ flat_map (one_told l.in_words l.turns) (take l.one-index l.each);
+  bytes : l.outbox.bytes.items ≡ l.initial.outbox.bytes.items ++ flat_map (one_told l.in_words l.each) (take l.one-index l.each);
   few : length l.outbox.bytes.items ≤ length l.initial.outbox.bytes.items + l.one-index * MOST_AFTER;
 }

@@ -41,7 +41,7 @@ loop-line-preserved c =
     let more = text_of (question_answers manner (number + 1) others) in
     let kinds = question_kinds (number + 1) others in
     let put : c.as_slice.result.now ≡ text =
-    c.as_slice.ensures ∙ c.take-kind.ensures.put ∙ ap (λ (b : List ℕ). b ++ with_line_feed (question_answer c.new-questions.result.manner number line)) c.clear.ensures
+    c.as_slice.ensures ∙ c.in_ok-kind.ensures.put ∙ ap (λ (b : List ℕ). b ++ with_line_feed (question_answer c.new-questions.result.manner number line)) c.clear.ensures
     ∙ ap (λ (m : StudiesManner). with_line_feed (question_answer m number line)) c.new-questions.ensures in
     let counted = c.counted-report.ensures in
     record {
@@ -50,9 +50,9 @@ loop-line-preserved c =
           ∙ sym (append_assoc before text more) ∙ ap (λ (front : List ℕ). front ++ more) (sym (c.in_ok-extend_from_slice.ensures.items ∙ ap (λ (t : List ℕ). before ++ t) put));
       report =
           so_far.report ∙ ap (λ (ls : List (List ℕ)). both_reports report (report_of (question_kinds number ls))) cut ∙ report_first report (question_kind number line) kinds
-          ∙ ap (λ (r : DeskReport). both_reports r (report_of kinds)) (sym (counted ∙ ap (report_with report) c.take-kind.ensures.kind));
+          ∙ ap (λ (r : DeskReport). both_reports r (report_of kinds)) (sym (counted ∙ ap (report_with report) c.in_ok-kind.ensures.kind));
       numbers = omega (arith, so_far.numbers, first.shorter);
-      count = omega (arith, so_far.count, first.shorter, ap count_of counted, counted_one report c.take-kind.result);
+      count = omega (arith, so_far.count, first.shorter, ap count_of counted, counted_one report c.in_ok-kind.kind);
     }
 
 pub returns : goal.returns

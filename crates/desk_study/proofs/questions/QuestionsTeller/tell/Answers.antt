@@ -4,9 +4,10 @@ use Rattle.desk_study.proofs.questions.QuestionsTeller.tell.Goals as goal
 
 pub returns-clause-told : goal.returns-clause-told
 returns-clause-told g c =
-    let now = c.args.self.now in record {
+    let now = c.args.self.now in
+    let taken = c.in_ok-kind in record {
       answer = question_answer now.manner c.args.number c.args.line.now;
-      put = c.take.ensures.put;
+      put = taken.ensures.put;
       tells_more = λ first lines told report next counted as_this tells.
-          tells_more first now c.args.number c.args.line.now c.take.result lines told report next c.take.ensures.kind counted as_this tells;
+          tells_more first now c.args.number c.args.line.now taken.kind lines told report next taken.ensures.kind counted as_this tells;
     }
