@@ -150,8 +150,13 @@ row 0 'shanten 6 turns 3 unseen 123 chances none
 # in words, and as objects
 row 0 'shanten 0 turns 2 unseen 123 ready 1/1 1.0000 most 1/1 1.0000 win 316/2501 0.1263 most 316/2501 0.1263
   ready in 1.0000 of all draws, 1.0000 at most; won in 0.1263 of all draws, 0.1263 at most' '' study --explain chances 123456789m1134p turns=2
-told 'discards in words' '  after 6s: ready in 1.0000 of all draws, 1.0000 at most; won in 0.4462 of all draws, 0.4745 at most' \
-  "$("$program" study --explain chances 23678m23p1236789s turns=18 | sed -nE '/^  after 6s: /s/ready in [0-9.]+ of all draws, [0-9.]+/ready in 1.0000 of all draws, 1.0000/p')"
+# the upper end of 6s and 9s, 0.4745, is below what each of the others reaches
+told 'discards in words' '  after 6s: won in 0.4462 of all draws, 0.4745 at most
+  after 2m: won in 0.4984 of all draws, 0.4984 at most, surely oftener than after 6s 9s' \
+  "$("$program" study --explain chances 23678m23p1236789s turns=18 | sed -nE 's/^  after (6s|2m): ready in [0-9.]+ of all draws, [0-9.]+ at most; /  after \1: /p')"
+told 'by 6 turns it is not sure' '' "$("$program" study --explain chances 23678m23p1236789s turns=6 | grep -o 'after 2m.*surely.*')"
+told 'those that it beats, as objects' '"2m" "surely_over":["6s","9s"]' \
+  "$("$program" study --json chances 23678m23p1236789s turns=18 | grep -oE '"discard":"2m"|"surely_over":\[[^]]*\]' | grep -A 1 2m | sed 's/"discard"://' | paste -s -d ' ')"
 row 0 '{"answer":"chances","shanten":0,"turns":2,"unseen":123,"counted":true,"ready":{"part":"1","whole":"1","chance":1.0000},"ready_at_most":{"part":"1","whole":"1","chance":1.0000},"win":{"part":"316","whole":"2501","chance":0.1263},"win_at_most":{"part":"316","whole":"2501","chance":0.1263}}' '' \
   study --json chances 123456789m1134p turns=2
 told 'discards of chances as objects' "$("$program" study chances 23678m23p1236789s turns=6 | sed 's/ discard /\n/g' | sed -nE 's|^(..) .* win ([0-9]+)/([0-9]+) ([0-9.]+) .*|"discard":"\1" "win":{"part":"\2","whole":"\3","chance":\4}|p')" \
