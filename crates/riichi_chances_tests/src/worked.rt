@@ -76,7 +76,7 @@ fn each_in_two(alloc: Global, asked: &ShapeRecord) -> Result<Vec<DiscardChances>
     }
 }
 
-fn refused(fault: ChancesFault) -> Fail {
+pub(crate) fn refused(fault: ChancesFault) -> Fail {
     match fault {
         ChancesFault::Memory => Fail::from("no memory twice"),
         ChancesFault::TooManyHands => Fail::from("too many hands"),
