@@ -187,6 +187,8 @@ row 1 'refused H8' '' study calls 234m45678p34s5589s tile=3p from=left
 row 1 'refused H9' '' study calls $near tile=3p from=left seen=3333p
 row 1 'refused N6 seen at 4' '' study calls $near tile=3p from=left seen=33333p
 
+# the example has six questions of all kinds
+told 'the example' $'0\n6' "$("$program" study --file examples/trainer.study > "$room/answered"; echo $?; grep -vc '^refused' "$room/answered")"
 # texts: notes and blank lines have no answers, and a first line of rules is none of them
 printf 'rules 2\n# of the evening\n\nshape 123456789m1134p\r\ncalls %s tile=3p from=right\nshape 8z\n' $near > "$room/input"
 row 1 $'shanten 0 accepts 2p:4 5p:4 live 8\ncalls none\nrefused N5 hand at 0' '' study
