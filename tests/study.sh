@@ -129,14 +129,14 @@ row 0 'calls none' '' study calls 1199m44p2356s155z tile=4s from=left
 
 # chances: of all ordered draws of so many tiles, in lowest terms and to four digits (fractions by brute force over every draw and discard)
 row 0 'shanten 0 turns 2 unseen 123 ready 1/1 1.0000 most 1/1 1.0000 win 316/2501 0.1263 most 316/2501 0.1263' '' study chances 123456789m1134p turns=2
-row 0 'shanten 0 turns 1 unseen 123 ready 1/1 1.0000 most 1/1 1.0000 win 8/123 0.0650 most 8/123 0.0650' '' study turns=1 chances 123456789m1134p
+row 0 'shanten 0 turns 1 unseen 123 ready 1/1 1.0000 most 1/1 1.0000 win 8/123 0.0650 most 8/123 0.0650' '' study chances turns=1 123456789m1134p
 # reached QUESTION..: what is reached, without the upper ends
 reached() { "$program" study chances "$@" | sed 's| most [0-9/]* [0-9.]*||g'; }
 told 'one from ready' 'shanten 1 turns 3 unseen 123 ready 125770/302621 0.4156 win 1685/55022 0.0306' "$(reached $near turns=3)"
 told 'one from ready, by 18' 'shanten 1 turns 18 unseen 123 ready 12190925419173643/12584789509475073 0.9687 win 3019940306028300997/5341671110885374167 0.5654' "$(reached $near turns=18)"
 told 'two from ready' 'shanten 2 turns 2 unseen 123 ready 64/2501 0.0256 win 0/1 0.0000' "$(reached $far turns=2)"
 told 'two from ready, by 18' 'shanten 2 turns 18 unseen 123 ready 3332954253898894213/4014547853522548287 0.8302 win 19305913277764549633/60218217802838224305 0.3206' "$(reached turns=18 $far)"
-told 'three from ready' 'shanten 3 turns 3 unseen 123 ready 9056/302621 0.0299 win 128/302621 0.0004' "$(reached turns=3 1357m245p2346s77z)"
+told 'two from ready, with fewer tiles that help' 'shanten 2 turns 3 unseen 123 ready 9056/302621 0.0299 win 128/302621 0.0004' "$(reached turns=3 1357m245p2346s77z)"
 # after each best discard of fourteen tiles, in the order of the shape's line. The better one turns with the turns.
 # wins QUESTION..: of two discards how often they win
 wins() { "$program" study chances "$@" | sed 's/ discard /\n/g' | sed -nE 's|^(6s\|2m) .* win ([0-9/]+ [0-9.]+) most [0-9/]+ ([0-9.]+)$|\1 \2 \3|p'; }
@@ -164,7 +164,7 @@ told 'discards of chances as objects' "$("$program" study chances 23678m23p12367
 row 0 '{"answer":"chances","shanten":6,"turns":3,"unseen":123,"counted":false}' '' study --json chances 147m258p369s1234z turns=3
 row 1 'refused H6' '' study chances 123456789m1134p
 row 1 'refused H5' '' study chances 123456789m1134p turns=2 turns=3
-for value in 0 19 02 2x 100 ''; do
+for value in 0 19 2x 100 ''; do
   row 1 'refused H4' '' study chances 123456789m1134p turns=$value
 done
 row 1 'refused H4' '' study chances 123456789m1134p turns=2 order=good
