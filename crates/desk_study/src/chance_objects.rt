@@ -68,7 +68,12 @@ pub(crate) fn push_first(text: &mut JsonText, odds: &FoundOdds)
 }
 
 /// Writes the chances after a discard, and after which of the others no play wins as often, behind a comma where it is not the first.
-pub(crate) fn push_after(text: &mut JsonText, later: bool, others: &[DiscardOdds], one: &DiscardOdds)
+pub(crate) fn push_after(
+    text: &mut JsonText,
+    later: bool,
+    others: &[DiscardOdds],
+    one: &DiscardOdds,
+)
     requires parts { ArePartsOfAll one.now.odds }
     requires few { length others.now ≤ 14 }
     requires room { array_string_len text.old + MOST_AFTER ≤ JSON_ROOM }

@@ -9,8 +9,8 @@ ghost use Rattle.desk_study.specs.ChanceObjects as objects;
 ghost use Rattle.desk_study.specs.Found as spec;
 
 use crate::chance_objects::{
-    MOST_AFTER as MOST_MEMBER, MOST_FIRST as MOST_FIRST_MEMBER, MOST_FRONT, push_after as push_member,
-    push_chances_front as push_members_front, push_end, push_first,
+    MOST_AFTER as MOST_MEMBER, MOST_FIRST as MOST_FIRST_MEMBER, MOST_FRONT,
+    push_after as push_member, push_chances_front as push_members_front, push_end, push_first,
 };
 use crate::form::StudiesForm;
 use crate::found::{FoundChances, FoundOdds};
@@ -26,8 +26,9 @@ use riichi_text::{ANSWER_ROOM, AnswerText};
 
 const MOST_FIRST: usize = MOST_CHANCES_FRONT + MOST_ODDS;
 
-/// The bytes of the words of hands that aren't counted.
-const MOST_UNCOUNTED: usize = 128;
+/// The bytes of the words where nothing is counted.
+const MOST_UNCOUNTED: usize =
+    "\n  chances are counted to three-shanten, and for no more draws than there are tiles".len();
 
 /// The bytes of the longest line. No hand has more than fourteen discards.
 const MOST_LINE: usize = MOST_FIRST + 14 * MOST_AFTER;
@@ -69,7 +70,12 @@ fn put_line(found: &FoundChances, outbox: &mut Outbox)
     ensures room { length outbox.new.bytes.items ≤ length outbox.old.bytes.items + MOST_LINE }
 {
     outbox.text.clear();
-    push_chances_front(&mut outbox.text, found.shanten, found.turns.count(), found.unseen);
+    push_chances_front(
+        &mut outbox.text,
+        found.shanten,
+        found.turns.count(),
+        found.unseen,
+    );
     push_first_text(&mut outbox.text, &found.odds);
     put_piece(outbox);
     put_each(false, found.odds.discards(), outbox);
@@ -165,7 +171,12 @@ fn put_members(found: &FoundChances, outbox: &mut Outbox)
         ≤ length outbox.old.bytes.items + MOST_MEMBERS }
 {
     outbox.object.clear();
-    push_members_front(&mut outbox.object, found.shanten, found.turns.count(), found.unseen);
+    push_members_front(
+        &mut outbox.object,
+        found.shanten,
+        found.turns.count(),
+        found.unseen,
+    );
     push_first(&mut outbox.object, &found.odds);
     put_object_piece(outbox);
     put_each_member(found.odds.discards(), outbox);

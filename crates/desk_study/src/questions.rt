@@ -9,8 +9,8 @@ ghost use Rattle.desk_study.specs.Tellers.{LineAsksChances};
 
 use crate::calls::put_calls;
 use crate::chances::put_chances;
-use crate::found::{FoundChances, find_chances};
 use crate::form::{StudiesForm, StudiesManner};
+use crate::found::{FoundChances, find_chances};
 use crate::puts::{put_end, put_fault, put_front};
 use crate::safe::put_safe;
 use crate::shapes::put_shape;

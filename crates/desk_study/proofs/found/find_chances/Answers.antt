@@ -17,10 +17,10 @@ count-requires-then-are_counted-clause-counted g c =
     let answer = c.shape_with-answer.result in
     let fits : FitsSigned width.w8 answer.shanten = search rules in
     sym (
-      sym c.if-are_counted.true
-      ∙ c.are_counted.ensures distance (to_z-of_z fits ∙ shanten_is hand answer c.shape_with-answer.ensures.shape)
-      ∙ ap (λ n. nat_le distance 4 && nat_le n c.unseen_tiles-unseen.result) c.count.ensures.value
-      ∙ ap (λ n. nat_le distance 4 && nat_le c.args.turns n) c.unseen_tiles-unseen.ensures.value
+    sym c.if-are_counted.true
+    ∙ c.are_counted.ensures distance (to_z-of_z fits ∙ shanten_is hand answer c.shape_with-answer.ensures.shape)
+    ∙ ap (λ n. nat_le distance 4 && nat_le n c.unseen_tiles-unseen.result) c.count.ensures.value
+    ∙ ap (λ n. nat_le distance 4 && nat_le c.args.turns n) c.unseen_tiles-unseen.ensures.value
     )
 
 pub returns : goal.returns

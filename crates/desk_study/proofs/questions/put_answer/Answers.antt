@@ -20,8 +20,8 @@ returns g c =
       | in-Calls w ↦ ap (λ (o : Outbox). o.bytes.items) w.outbox-is ∙ w.put_calls.ensures.bytes ∙ ap (λ (s : Study). front ++ told_in form (finding_of s)) (sym w.in-Calls.is)
       | in-Safe w ↦ ap (λ (o : Outbox). o.bytes.items) w.outbox-is ∙ w.put_safe.ensures.bytes ∙ ap (λ (s : Study). front ++ told_in form (finding_of s)) (sym w.in-Safe.is)
       | in-Chances+in-Some w ↦
-        let found = subst (λ (s : Study). IsFoundOf s (Some w.in-Some.found)) w.in-Chances.is (subst (λ (o : Option FoundChances). IsFoundOf study o) w.in-Some.is c.requires.found) in
-        ap (λ (o : Outbox). o.bytes.items) w.outbox-is ∙ w.put_chances.ensures.bytes ∙ ap (λ (t : List ℕ). front ++ t) (chances_told w.in-Chances.field-0 w.in-Chances.field-1 w.in-Some.found found form)
-        ∙ ap (λ (s : Study). front ++ told_in form (finding_of s)) (sym w.in-Chances.is)
+          let found = subst (λ (s : Study). IsFoundOf s (Some w.in-Some.found)) w.in-Chances.is (subst (λ (o : Option FoundChances). IsFoundOf study o) w.in-Some.is c.requires.found) in
+          ap (λ (o : Outbox). o.bytes.items) w.outbox-is ∙ w.put_chances.ensures.bytes ∙ ap (λ (t : List ℕ). front ++ t) (chances_told w.in-Chances.field-0 w.in-Chances.field-1 w.in-Some.found found form)
+          ∙ ap (λ (s : Study). front ++ told_in form (finding_of s)) (sym w.in-Chances.is)
     ] in
     pushed-three c.args.outbox.now.bytes.items (form_front form c.args.number) (told_in form (finding_of study)) (10 ∷ []) c.put_front.ensures.bytes told c.put_end.ensures
