@@ -3,7 +3,8 @@
  *
  * Link with libriichi_desk_c.a and the C library: they run on every processor of x86-64 under Linux. No call keeps anything or takes
  * memory, so any thread may make any of them at any time, where what it fills is its own and its stack has the space that the call
- * names. Of the C library they use memcpy, memmove and memset alone.
+ * names. Of the C library they use memcpy, memmove and memset alone, and of the compiler's own library, which each compiler links by
+ * itself, what divides numbers of 128 bits.
  *
  * Each pointer must be valid for as many bytes, or rows of an array, as its length says, and not null even where that is 0. What a
  * call fills must overlap nothing else that is lent, and no other thread may use it meanwhile. The library can't test these.
@@ -26,6 +27,9 @@ extern "C" {
 
 /* No explanation takes more bytes. */
 #define RIICHI_MOST_EXPLANATION 4608
+
+/* No answer to a question of a player takes more bytes. */
+#define RIICHI_MOST_STUDY 65536
 
 /* The rule profiles, as docs/RULES.md has them. */
 #define RIICHI_RULES_ONE 1
@@ -97,6 +101,37 @@ size_t riichi_explain_json(uint32_t rules, const uint8_t *line, size_t line_len,
  * Returns how many bytes these lines take; 0 where the line is no record.
  */
 size_t riichi_explain(uint32_t rules, const uint8_t *line, size_t line_len, uint8_t *room, size_t room_len);
+
+/* A place for a hand that another may come to, and the numbers of such a hand. What they hold is the library's; before the first call
+ * all of their bytes are 0, as calloc leaves them. */
+typedef struct riichi_hand_place {
+    uint16_t held[564];
+} riichi_hand_place;
+
+typedef struct riichi_hand_rows {
+    uint64_t held[152];
+} riichi_hand_rows;
+
+typedef struct riichi_worth_row {
+    uint64_t held[57];
+} riichi_worth_row;
+
+/* Answers one question of a player as one object of JSON (docs/NOTATION.md, "Questions of a player"; docs/study.schema.json): what stands
+ * beyond a hand's next step, which calls bring it nearer, what is safe, how likely it is to be ready, and to win, or what it is worth:
+ *
+ *   chances 123456789m1134p turns=2
+ *
+ *   line      The bytes of the line, as for `riichi_answer`; a line `rules 2` is refused like any other that asks nothing.
+ *   places    Room for the hands that a hand may come to: places and rows for a question of chances, places and worths for one of a
+ *   rows      worth; other questions want none. Of each two the lesser number counts, and no more than 65,535 of them. For two-shanten
+ *   worths    512 do for nearly each hand, and for three-shanten 5,120. Where a hand may come to more, the object is
+ *             {"answer":"refused","code":"places"}: it is asked once more with more.
+ *   room      Where the object goes, as for `riichi_json`.
+ *
+ * Returns how many bytes the object takes; 0 where the line is a comment or blank. Each call has some 250 kB on the stack.
+ */
+size_t riichi_study(const uint8_t *line, size_t line_len, riichi_hand_place *places, size_t places_len, riichi_hand_rows *rows,
+    size_t rows_len, riichi_worth_row *worths, size_t worths_len, uint8_t *room, size_t room_len);
 
 /* Answers the lines of a text, from its start, as many as have room: each answer with a line feed behind it, and nothing for a
  * comment or a blank line. So what stands in the room is what the command `line` writes of these lines.

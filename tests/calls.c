@@ -222,6 +222,31 @@ static void try_calls(void) {
     CHECK(live[0][2][25] == 6 && live[0][2][22] == 3 && live[0][2][24] == 0);
 }
 
+static riichi_hand_place places[512];
+static riichi_hand_rows place_rows[512];
+static riichi_worth_row worth_rows[512];
+
+/* Whether the answer to a question of a player has these words, where so many hands have room. */
+static int has_words(const char *line, size_t hands, const char *words) {
+    static uint8_t room[RIICHI_MOST_STUDY + 1];
+    const size_t needed = riichi_study((const uint8_t *)line, strlen(line), places, hands, place_rows, hands, worth_rows, hands, room, RIICHI_MOST_STUDY);
+    room[needed] = 0;
+    return strstr((const char *)room, words) != NULL;
+}
+
+static void try_studies(void) {
+    CHECK(has_words("chances 123456789m1134p turns=2", 1, "\"win\":{\"part\":\"316\",\"whole\":\"2501\",\"chance\":0.1263}"));
+    CHECK(has_words("chances 123m4467p23557s1z turns=3", 512, "\"ready\":{\"part\":\"20864\",\"whole\":\"302621\""));
+    CHECK(has_words("chances 123m4467p23557s1z turns=3", 1, "{\"answer\":\"refused\",\"code\":\"places\"}"));
+    CHECK(has_words("chances 123m4467p23557s1z turns=3", 0, "{\"answer\":\"refused\",\"code\":\"places\"}"));
+    CHECK(has_words("shape 234m45678p34s558s", 0, "\"second\":165"));
+    CHECK(has_words("chances 1m turns=3", 0, "\"answer\":\"refused\""));
+    CHECK(has_words("worth 123456789m1134p turns=1 seat=S round=E", 1, "\"points\":520,\"part\":\"40\",\"whole\":\"123\",\"worth\":520.3252}"));
+    CHECK(has_words("worth 123m4467p23557s1z turns=3 seat=S round=E", 1, "{\"answer\":\"refused\",\"code\":\"places\"}"));
+    CHECK(has_words("worth 123m4467p23557s1z turns=3 seat=S round=E", 512, "\"counted\":true,\"points\":"));
+    CHECK(riichi_study((const uint8_t *)"# none", 6, places, 0, place_rows, 0, worth_rows, 0, (uint8_t *)place_rows, 0) == 0);
+}
+
 /* `win 123406789m22s34p on=2p by=ron seat=S round=E`, which has pinfu and pure straight. */
 static const struct riichi_win STRAIGHT = {
     .concealed = {1, 1, 1, 1, 1, 1, 1, 1, 1, [11] = 1, 1, [19] = 2}, .winning = 10, .seat = RIICHI_SOUTH, .reds = {1}};
@@ -389,6 +414,7 @@ int main(void) {
     try_shapes();
     try_outlooks();
     try_calls();
+    try_studies();
     try_wins();
     try_refused_wins();
     try_tables();

@@ -3,7 +3,7 @@
 
 import doctest
 
-from riichi_desk import arrays, as_json, games, hall, hints, ledger, many, questions, records, rules, scores, tiles, values
+from riichi_desk import arrays, as_json, games, hall, hints, ledger, many, questions, records, rules, scores, studies, tiles, values
 
-for module in arrays, as_json, games, hall, hints, ledger, many, questions, records, rules, scores, tiles, values:
+for module in arrays, as_json, games, hall, hints, ledger, many, questions, records, rules, scores, studies, tiles, values:
     doctest.testmod(module)

@@ -45,6 +45,12 @@ function pale() {
   return found;
 }
 
+// Curves and the dots at their ends with a contrast under 3 to what is below them.
+function faint() {
+  const colourOf = (it) => getComputedStyle(it)[it.matches("circle") ? "fill" : "stroke"];
+  return [...document.querySelectorAll(".curve, circle")].filter((it) => ratio(parts(colourOf(it)), ground(it.closest(".picture"))) < 3).map((it) => it.outerHTML);
+}
+
 // Words that don't fit into what they stand in.
 function cut() {
   const controls = "button:not(.on-tile, .meld button), .button, .option span, label, legend";
@@ -60,7 +66,7 @@ function cut() {
 // What is touched and is smaller than 44 pixels in a direction.
 function small() {
   const dialog = document.querySelector("dialog[open]") ?? document;
-  return [...dialog.querySelectorAll(`button, .button, .option, a, select, ${TYPED}`)]
+  return [...dialog.querySelectorAll(`button, .button, .option, a, select, summary, ${TYPED}`)]
     .filter(isShown)
     .map((it) => [named(it), it.getBoundingClientRect()])
     .filter(([, box]) => box.width < 43.99 || box.height < 43.99)

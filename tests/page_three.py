@@ -8,6 +8,7 @@ import subprocess
 import tempfile
 from pathlib import Path
 
+from page_chances import chances_in, chances_of_thirteen
 from page_game import begin_game, game_text, play
 from page_kept import READY, served
 from page_looks import LANGUAGES, VIEWS, sound
@@ -89,6 +90,7 @@ def test_site(driver: Driver) -> None:
     server.server_close()
     driver.open(f"{address}?again#waits%201112345678999m")
     told(f"{driver.name}: the site without its server", answers_of(["waits 1112345678999m"]), [driver.run(RAW)])
+    chances_of_thirteen(driver, f"{driver.name}: the site without its server: ")
 
 
 def test_three(folder: Path) -> None:
@@ -101,6 +103,7 @@ def test_three(folder: Path) -> None:
                     test(driver)
                 driver.picture(folder / f"{driver.name}.png")
                 driver.run("document.getElementById('sheet').close()")
+                chances_in(driver)
                 in_a_frame(test_game, driver)
                 driver.open(PAGE.as_uri())
                 test_narrow(driver, folder)

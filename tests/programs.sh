@@ -70,7 +70,7 @@ games_by_python() { by_python -c 'import riichi_desk, sys; sys.stdout.buffer.wri
 told 'a text of games by Python' "$(sha256sum < examples/games/evening.answers)" "$(games_by_python < examples/games/evening.game | sha256sum)"
 told "messages to a table's book by Python" '21 messages, 0 failed' "$(by_python tests/hall_answers.py 2>&1)"
 told 'games by Python' 'no difference' "$(by_python tests/game_answers.py 2>&1 | sed 's/.* deals, //')"
-told 'what the library asks of the C library' 'memcpy memmove memset' "$(nm -u "$archive" | sed -n 's/^ *U //p' | sort -u | xargs)"
+told 'what the library asks of the C library, and of the compiler to divide numbers of 128 bits' '__udivti3 __umodti3 memcpy memmove memset' "$(nm -u "$archive" | sed -n 's/^ *U //p' | sort -u | xargs)"
 
 # the plain ledger of bench/, by which docs/GAME.md and the worked deals were reckoned
 if command -v cargo > /dev/null; then

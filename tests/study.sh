@@ -1,4 +1,4 @@
-# Rows of the command `study`, read by tests/program.sh: answers to questions of shapes, of calls, of safe tiles and of chances, and what is refused.
+# Rows of the command `study`, read by tests/program.sh: answers to questions of shapes, of calls, of safe tiles, of chances and of worths, and what is refused.
 
 near=234m45678p34s558s far=123m4467p23557s1z wide=45567m1236788p46s
 row 0 'shanten 1 accepts 3p:4 6p:3 9p:4 2s:4 5s:2 8s:3 live 20 second 165 good 20' '' study shape $near
@@ -170,6 +170,52 @@ done
 row 1 'refused H4' '' study chances 123456789m1134p turns=2 order=good
 row 1 'refused H8' '' study chances 123456789m turns=2
 
+# worth: 8 of 123 tiles win, each a mangan by riichi, fully concealed hand, pinfu and a pure straight (8000; as the dealer 12000)
+straight=123456789m1134p
+row 0 'shanten 0 turns 1 unseen 123 worth 520+40/123 520.3252' '' study worth $straight turns=1 seat=S round=E
+row 0 'shanten 0 turns 1 unseen 123 worth 780+20/41 780.4878' '' study worth seat=E $straight round=E turns=1
+# by two draws it wins in 316 of 2501, and gains as much
+row 0 'shanten 0 turns 2 unseen 123 worth 1010+1990/2501 1010.7957' '' study worth $straight turns=2 seat=W round=S
+# the indicator is seen, and 2p is a dora: 4 of 122 tiles gain 12000, 4 gain 8000
+row 0 'shanten 0 turns 1 unseen 122 worth 655+45/61 655.7377' '' study worth $straight turns=1 seat=S round=E dora=1p
+told 'an indicator in seen is one more tile' 'shanten 0 turns 1 unseen 121 worth 661+19/121 661.1570' "$("$program" study worth $straight turns=1 seat=S round=E dora=1p seen=1z)"
+row 0 'shanten 0 turns 1 unseen 123 worth 520+40/123 520.3252' '' study worth $straight turns=1 seat=S round=E rules=2-ura
+# an open hand without a yaku: eight tiles win, and bring nothing; with a triplet of white dragons 8 of 123 bring 1100 (1 han, 30 fu)
+row 0 'shanten 0 turns 1 unseen 123 worth 0+0/1 0.0000' '' study worth 234m56p99s turns=1 seat=S round=E open=chi:567s,chi:789m
+row 0 'shanten 0 turns 1 unseen 123 worth 71+67/123 71.5447' '' study worth 234m56p99s turns=1 seat=S round=E open=pon:555z,chi:789m
+# of fourteen tiles after each best discard: no other tile than 7z may go
+row 0 'shanten 0 turns 1 unseen 122 discard 7z worth 524+36/61 524.5902
+  after 7z: worth 524.5902 points by these draws, on the average, the most' '' study --explain worth 123456789m1134p7z turns=1 seat=S round=E
+told 'discards of a worth as of a shape' "$("$program" shape 44577m23p3356678s | grep -o 'discard ..')" "$("$program" study worth 44577m23p3356678s turns=4 seat=N round=E dora=4z | grep -o 'discard ..')"
+told 'those that are worth the most' '2m 3m 2p 3p' "$("$program" study --explain worth 23678m23p1236789s turns=6 seat=E round=E dora=5s | sed -n 's/^  after \(..\): .*, the most$/\1/p' | paste -s -d ' ')"
+row 0 'shanten 0 turns 1 unseen 123 worth 520+40/123 520.3252
+  worth 520.3252 points by these draws, on the average' '' study --explain worth $straight turns=1 seat=S round=E
+row 0 'shanten 6 turns 3 unseen 123 worth none
+  chances are counted to three-shanten, and for no more draws than there are tiles' '' study --explain worth 147m258p369s1234z turns=3 seat=S round=E
+row 0 '{"answer":"worth","shanten":0,"turns":1,"unseen":123,"counted":true,"points":520,"part":"40","whole":"123","worth":520.3252}' '' study --json worth $straight turns=1 seat=S round=E
+row 0 '{"answer":"worth","shanten":0,"turns":1,"unseen":122,"counted":true,"discards":[{"discard":"7z","points":524,"part":"36","whole":"61","worth":524.5902}]}' '' \
+  study --json worth 123456789m1134p7z turns=1 seat=S round=E
+row 0 '{"answer":"worth","shanten":6,"turns":3,"unseen":123,"counted":false}' '' study --json worth 147m258p369s1234z turns=3 seat=S round=E
+for words in 'seat=S round=E' 'turns=1 round=E' 'turns=1 seat=S'; do
+  row 1 'refused H6' '' study worth $straight $words
+done
+for words in 'turns=1 seat=S seat=S round=E' 'turns=1 turns=1 seat=S round=E' 'turns=1 seat=S round=E dora=1z dora=1z' 'turns=1 seat=S round=E rules=1 rules=1'; do
+  row 1 'refused H5' '' study worth $straight $words
+done
+for words in 'turns=19 seat=S round=E' 'turns=1 seat=1 round=E' 'turns=1 seat=S round=' 'turns=1 seat=S round=E dora=x' 'turns=1 seat=S round=E rules=3' 'turns=1 seat=S round=E rules=1+red' 'turns=1 seat=S round=E order=good'; do
+  row 1 'refused H4' '' study worth $straight $words
+done
+row 1 'refused H8' '' study worth $straight turns=1 seat=S round=E dora=123456s
+row 1 'refused H8' '' study worth 123456789m turns=x
+row 1 'refused H9' '' study worth $straight turns=1 seat=S round=E dora=111p
+row 1 'refused H9' '' study worth $straight turns=1 seat=S round=E dora=11z seen=111z
+row 1 'refused H4' '' study chances $straight turns=1 seat=S
+if command -v python3 > /dev/null; then
+  told 'worths beside the definition, over every ordered draw' '200 hands, 0 wrong' "$(tests/worths_by_draws.py "$program")"
+else
+  skip 'worths over every ordered draw' python3
+fi
+
 # what is refused: words that are no question's, values that say nothing, words that are missing, and a fifth tile
 for question in 'win 123m' 'waits 1112345678999m' "order=good"; do
   row 1 'refused H2' '' study "$question"
@@ -187,8 +233,8 @@ row 1 'refused H8' '' study calls 234m45678p34s5589s tile=3p from=left
 row 1 'refused H9' '' study calls $near tile=3p from=left seen=3333p
 row 1 'refused N6 seen at 4' '' study calls $near tile=3p from=left seen=33333p
 
-# the example has six questions of all kinds
-told 'the example' $'0\n6' "$("$program" study --file examples/trainer.study > "$room/answered"; echo $?; grep -vc '^refused' "$room/answered")"
+# the example has seven questions of all kinds
+told 'the example' $'0\n7' "$("$program" study --file examples/trainer.study > "$room/answered"; echo $?; grep -vc '^refused' "$room/answered")"
 # texts: notes and blank lines have no answers, and a first line of rules is none of them
 printf 'rules 2\n# of the evening\n\nshape 123456789m1134p\r\ncalls %s tile=3p from=right\nshape 8z\n' $near > "$room/input"
 row 1 $'shanten 0 accepts 2p:4 5p:4 live 8\ncalls none\nrefused N5 hand at 0' '' study

@@ -2,7 +2,9 @@
 
 import { answerTo, lacks } from "./answers.js";
 import { lackOfTiles } from "./asked.js";
+import { endUnseen } from "./asking.js";
 import { showThrowers, throwTile } from "./calls.js";
+import { chancesParts } from "./chances.js";
 import { byId, label, make } from "./elements.js";
 import { moveTile, placeOfKind } from "./motion.js";
 import { nextTarget, taken, THROWERS } from "./moves.js";
@@ -144,7 +146,7 @@ function showAnswer() {
     return;
   }
   byId("why").disabled = false;
-  byId("answer").replaceChildren(...help, ...shownWhole(about.values, about));
+  byId("answer").replaceChildren(...help, ...shownWhole(about.values, about, [], chancesParts(about.values, about)));
   if (about.values.answer !== "refused") state.handId = keepHand(state.handId, line, rules);
   else showFault(document.querySelector(`[data-field="${about.values.key}"]`) ? about.values.key : "line");
 }
@@ -155,6 +157,7 @@ export function showForm() {
   showTray(takeOut);
   showPicker();
   showAnswer();
+  endUnseen();
   showFull();
   changed();
 }

@@ -68,6 +68,12 @@ function numberField(name, words, value, take) {
   return field(words, input);
 }
 
+// What a penalty still wants.
+function lackOfPenalty({ player, points: taken }) {
+  if (player !== null) return "lack points";
+  return taken === "" ? "lack penalty" : "lack player";
+}
+
 export function penaltyScreen() {
   const { draft } = evening;
   const set = (number) => tapped(() => (draft.points = number));
@@ -77,7 +83,7 @@ export function penaltyScreen() {
     head(phrase("penalty"), tapped(leaveOutcome)),
     onePlayer(phrase("who")),
     titled(phrase("points off"), group("often", phrase("points off"), ...often), field),
-    countBar(phrase("lacking", { what: phrase("lack penalty") })),
+    countBar(phrase("lacking", { what: phrase(lackOfPenalty(draft)) })),
   ];
 }
 

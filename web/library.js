@@ -41,7 +41,8 @@ export class Desk {
   #line;
   #room;
 
-  constructor(exports) {
+  constructor(module, exports) {
+    this.module = module;
     this.#exports = exports;
     this.#line = exports.memory.grow(GIVEN_PAGES + 2) * PAGE;
     this.#room = this.#line + MOST_GAME;
@@ -60,8 +61,8 @@ export class Desk {
 
   static async start() {
     try {
-      const instance = await WebAssembly.instantiate(await compiledModule(), {});
-      return new Desk(instance.exports);
+      const module = await compiledModule();
+      return new Desk(module, (await WebAssembly.instantiate(module, {})).exports);
     } catch (failure) {
       if (!(failure instanceof WebAssembly.CompileError)) throw failure;
       throw new Error("its WebAssembly is too old: browsers since 2021 have what is needed");

@@ -14,9 +14,22 @@ export function signed(number) {
   return number > 0 ? `+${points(number)}` : points(number);
 }
 
+// A number with one decimal.
+function decimal(number) {
+  const text = number.toFixed(1);
+  return WITH_COMMA.includes(language()) ? text.replace(".", ",") : text;
+}
+
 // Final points: thousands with one decimal.
 export function thousands(number) {
   const sign = number > 0 ? "+" : number < 0 ? "\u2212" : "";
-  const text = `${sign}${(Math.abs(number) / 1000).toFixed(1)}`;
-  return WITH_COMMA.includes(language()) ? text.replace(".", ",") : text;
+  return `${sign}${decimal(Math.abs(number) / 1000)}`;
+}
+
+// A part of a whole in percent, both as the library tells them: texts of digits. Only nothing is 0, and only all is 100.
+export function percent({ part, whole }) {
+  if (part === "0" || part === whole) return part === "0" ? "0" : "100";
+  const tenths = Number((BigInt(part) * 2000n / BigInt(whole) + 1n) / 2n);
+  if (tenths === 0) return `<${decimal(0.1)}`;
+  return tenths === 1000 ? `>${decimal(99.9)}` : decimal(tenths / 10);
 }

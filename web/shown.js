@@ -112,9 +112,9 @@ export function shownAnswer(answer, about) {
   return (SHOWN[answer.answer] ?? (() => [make("p", { class: "headline" }, answer.answer)]))(answer, about);
 }
 
-// The same with its reasons, and the answer as a text.
-export function shownWhole(answer, about, first = []) {
+// The same with its reasons, and the answer as a text; above these stand the parts of `more`.
+export function shownWhole(answer, about, first = [], more = []) {
   const hasRows = about.reasons.length > 0 && answer.answer !== "refused";
   const reasons = hasRows ? [make("dl", { class: "why", "aria-label": phrase("reasons") }, ...rowsOfReasons(about, first))] : [];
-  return [...shownAnswer(answer, about), ...callsParts(answer, about), ...furtherParts(answer, about), ...reasons, make("p", { class: "raw", lang: "en" }, about.text)];
+  return [...shownAnswer(answer, about), ...callsParts(answer, about), ...furtherParts(answer, about), ...more, ...reasons, make("p", { class: "raw", lang: "en" }, about.text)];
 }

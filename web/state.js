@@ -8,6 +8,8 @@ export const state = {
   target: "hand", // where a tapped tile goes
   thrown: null, // the tile that another player throws: for which line, who, and its kind
   isFurther: false, // whether what stands beyond the next step is shown
+  areChances: false, // whether chances by turn are shown
+  goal: "win", // of which goal they are shown
   isRed: false, // whether the next five is a red one
   past: [], // what stood before each change
   handId: 0, // the number of this hand in the list of hands; 0 while it isn't there

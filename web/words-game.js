@@ -149,6 +149,7 @@ export const GAME_WORDS = {
   "lack tiles": ["tiles: {number}", "牌あと{number}枚", "Steine: {number}", "tuiles : {number}", "kamienie: {number}"],
   "lack on": ["the winning tile", "和了牌", "der Gewinnstein", "la tuile gagnante", "kamień wygrywający"],
   "lack player": ["who", "誰か", "wer", "qui", "kto"],
+  "lack points": ["how many points", "点数", "wie viele Punkte", "combien de points", "ile punktów"],
   "lack penalty": ["who, and how many points", "誰かと点数", "wer, und wie viele Punkte", "qui, et combien de points", "kto i ile punktów"],
   "colon": ["{what}: {more}", "{what}：{more}", "{what}: {more}", "{what} : {more}", "{what}: {more}"],
   "move": [

@@ -91,6 +91,10 @@ export type Why =
 export function why(line: Line, rules?: Rules): (Answer & { why?: Why }) | null;
 /** The lines that say why a line is answered as it is. */
 export function explain(line: Line, rules?: Rules): string[];
+/** The answer to a question of a player (NOTATION.md), as study.schema.json describes it: what stands beyond a hand's next step, which
+ * calls bring it nearer, what is safe, or how likely it is to be ready, and to win. Chances of a far hand take some megabytes of memory,
+ * which the module keeps. */
+export function study(line: Line): Record<string, unknown> | null;
 /** The answers to a whole text of lines, as the command `line` writes them: each with a line feed, and nothing for a comment or a
  * blank line. A line `rules 2` is a line like any other here, and refused. By few calls: the quickest way to many answers. */
 export function answerLines(text: Line, rules?: Rules): string;

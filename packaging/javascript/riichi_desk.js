@@ -1,45 +1,16 @@
 // The proved library for browsers and for Node: import { answer } from "riichi_desk". The modules lie beside this file.
 
 import { calls, lend, LINE, memory, MOST_ANSWER, MOST_TEXT, ROOM, tested, view } from "./module.js";
+import { AT, encoder, given, isBytes, lineRoom, MOST_LINE, put, read } from "./texts.js";
 
 export { Game, HandRefused, OutcomeRefused, RulesRefused, table } from "./game.js";
 export { ACROSS, ankan, callsOf, chi, deeper, discards, kan, LEFT, NO_HAND, NO_WAITS, NO_WIN, NO_YAKU, pon, RIGHT } from "./arrays.js";
 export { shanten, shapes, waits, winRow, wins, WON } from "./arrays.js";
+export { study } from "./study.js";
 
-const MOST_LINE = 4200; // a line of more than 4096 bytes is refused whatever follows
 const TAKEN = ROOM + MOST_ANSWER;
-const encoder = new TextEncoder();
-const decoder = new TextDecoder();
-
-// Sizes and places are 64-bit numbers in the module's calls, though its memory has 32-bit places.
-const AT = [BigInt(LINE), BigInt(ROOM), BigInt(MOST_ANSWER)];
-
-function read(needed) {
-  return decoder.decode(memory.subarray(ROOM, ROOM + Number(needed)));
-}
-
-const isBytes = (given) => Object.prototype.toString.call(given) === "[object Uint8Array]";
-
-// A line or a text as it is given; what is neither is told, with what comes before the words where it is one of many.
-function given(line, before = "") {
-  if (typeof line === "string" || isBytes(line)) return line;
-  throw new TypeError(`${before}a line is a string or a Uint8Array, and not ${line === null ? "null" : typeof line}`);
-}
 
 const bytesOf = (text) => (typeof given(text) === "string" ? encoder.encode(text) : text);
-
-const lineRoom = () => memory.subarray(LINE, LINE + MOST_LINE);
-
-// How many bytes of a line lie in its room: a text or bytes, without a line feed at its end and a carriage return before that.
-function put(line) {
-  if (typeof given(line) === "string") return encoder.encodeInto(line.replace(/\r?\n?$/, ""), lineRoom()).written;
-  let end = line.length;
-  if (line[end - 1] === 10) end--;
-  if (line[end - 1] === 13) end--;
-  const front = line.subarray(0, Math.min(end, MOST_LINE));
-  lineRoom().set(front);
-  return front.length;
-}
 
 // The number of the rules that a text names; 0 where it names none.
 function numberOf(text) {

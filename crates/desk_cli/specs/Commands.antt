@@ -36,4 +36,4 @@ is_job word = list_any (λ command. bytes_eq (command_word command) word) (comma
 
 -- a question begins with this word
 abbrev pub is_study_job : List ℕ → Bool
-is_study_job word = bytes_eq word (codes "shape") || bytes_eq word (codes "calls") || bytes_eq word (codes "safe") || bytes_eq word (codes "chances")
+is_study_job word = bytes_eq word (codes "shape") || bytes_eq word (codes "calls") || bytes_eq word (codes "safe") || bytes_eq word (codes "chances") || bytes_eq word (codes "worth")

@@ -91,5 +91,5 @@ pub(crate) fn is_job(word: &str) -> bool
 pub(crate) fn is_study_job(word: &str) -> bool
     ensures { result ≡ spec.is_study_job word.now }
 {
-    word == "shape" || word == "calls" || word == "safe" || word == "chances"
+    word == "shape" || word == "calls" || word == "safe" || word == "chances" || word == "worth"
 }

@@ -80,6 +80,8 @@ Lines:
   calls HAND tile=T from=left|across|right [open=MELDS] [seen=TILES]
   safe HAND [own=TILES] [thrown=TILES] [since=TILES] [open=MELDS] [seen=TILES]
   chances HAND turns=N [open=MELDS] [seen=TILES]
+  worth HAND turns=N seat=E|S|W|N round=E|S|W|N [dora=TILES] [rules=WORDS]
+        [open=MELDS] [seen=TILES]
 
 Exit status:
 "

@@ -10,10 +10,11 @@ use super::line_kind::LineKind;
 use super::numbered::Numbers;
 use super::outbox::{MOST_TEXT_LINE, Outbox};
 use super::responder::Responder;
+use riichi_cuts::waits_with;
 use riichi_hand::{Job, LineFault, Refusal, Rules, ShapeRecord, fault_text, read_line};
 use riichi_score::{best, push_win};
 use riichi_shape::{RowSource, push_shape, shape_with};
-use riichi_split::{push_waits, waits};
+use riichi_split::push_waits;
 use riichi_tiles::KindSet;
 
 /// The plain answers: a line for each record.
@@ -41,7 +42,7 @@ impl Responder for Plain {
                 push_win(&mut outbox.text, &best(win));
                 outbox.put_text();
             }
-            Job::Waits(hand) => put_waits(waits(hand), outbox),
+            Job::Waits(hand) => put_waits(waits_with(source, hand), outbox),
             Job::Shape(tiles) => put_shape(tiles, outbox, source),
         }
     }

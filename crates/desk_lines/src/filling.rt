@@ -5,13 +5,17 @@ ghost use Rattle.desk_lines.specs.Filling.{IsFirstLine, Fills};
 use super::first_line::{cut_text, without_return};
 use super::outbox::Outbox;
 use super::responder::Responder;
+use riichi_cuts::KeptCut;
 use riichi_hand::Rules;
 use riichi_shape::{KeptRow, KeptUpper, LentMemo};
 
-/// So many rows of suits are kept for the next lines of a text, in the frame of the call, and so many upper ranks.
+/// So many rows of suits are kept for the next lines of a text, in the frame of the call, so many upper ranks, and so many
+/// cuts of suits.
 const KEPT_ROWS: usize = 1024;
 
 const KEPT_UPPERS: usize = 16;
+
+const KEPT_CUTS: usize = 256;
 
 /// How many bytes of a text were answered, and how many bytes of the room the answers fill.
 #[derive(Clone, Copy, Debug, PartialEq, Eq)]
@@ -29,7 +33,8 @@ pub fn fill_by<A: Responder>(rules: Rules, text: &[u8], room: &mut [u8]) -> Fill
 {
     let mut rows = [KeptRow::of_nothing(); KEPT_ROWS];
     let mut uppers = [KeptUpper::of_nothing(); KEPT_UPPERS];
-    let mut memo = LentMemo::new(&mut rows, &mut uppers);
+    let mut cuts = [KeptCut::of_nothing(); KEPT_CUTS];
+    let mut memo = LentMemo::new(&mut rows, &mut uppers, &mut cuts);
     let mut outbox = Outbox::new();
     let mut rest = text;
     let mut filled = 0;

@@ -15,11 +15,11 @@ use Rattle.riichi_chances.specs.Odds.{after_discard, best_odds, odds_after, odds
 use Rattle.riichi_chances.specs.declared.odds.DiscardOdds.{DiscardOdds}
 use Rattle.riichi_chances.specs.declared.odds.Odds.{Odds}
 use Rattle.riichi_chances_text.specs.OddsTexts.{odds_members, odds_text}
-use Rattle.riichi_study.specs.ChanceTexts.{after_reason, after_text, are_counted, chances_reasons, chances_text, counted_text, front_text, hand_odds_reason}
+use Rattle.riichi_study.specs.ChanceTexts.{after_reason, after_text, are_counted, chances_reasons, chances_text, counted_text, front_text, hand_odds_reason, uncounted_reason}
 use Rattle.riichi_study.specs.Findings.{Chances}
 use Rattle.desk_json.specs.Parts.{quoted_kind}
 use Rattle.desk_study.specs.Answers.{listed_next, something_there, told_in}
-use Rattle.desk_study.specs.ChanceObjects.{beaten_kind, chances_members, counted_json, each_json, front_json}
+use Rattle.desk_study.specs.ChanceObjects.{beaten_kind, chances_members, chances_name, counted_json, each_json, front_json}
 use Rattle.desk_study.specs.Found.{AreFound, IsFound, each_of, end_json, first_json, first_told, found_members, found_reasons, found_text, found_told}
 use Rattle.desk_study.specs.declared.form.StudiesForm.{StudiesForm}
 use Rattle.desk_study.specs.declared.form.StudiesForm.TheVariants.{Answers, Explained, Objects}
@@ -61,6 +61,9 @@ module _ (hand : Odds → List ℕ) (each_told : List DiscardOdds → List ℕ) 
 
 -- ---- members
 
+pub list_ended : (each : List ℕ) → codes "true,\"discards\":[" ++ (each ++ codes "]}") ≡ ((codes "true,\"discards\":[" ++ each) ++ codes "]") ++ codes "}"
+list_ended each = sym (append_assoc (codes "true,\"discards\":[" ++ each) (codes "]") (codes "}") ∙ append_assoc (codes "true,\"discards\":[") each (codes "]}"))
+
 module _ (parts : ShapeParts) (turns : ℕ) where
   abbrev counted_members : Bool → List ℕ
   counted_members thirteen = if thirteen then codes "true," ++ odds_members (odds_of parts turns) else codes "true,\"discards\":[" ++ each_json (best_odds parts turns) ++ codes "]"
@@ -68,14 +71,11 @@ module _ (parts : ShapeParts) (turns : ℕ) where
   abbrev all_members : Bool → List ℕ
   all_members counted = (if counted then counted_members (is_thirteen parts.tiles parts.melds) else codes "false") ++ codes "}"
 
-  ended : (each : List ℕ) → codes "true,\"discards\":[" ++ (each ++ codes "]}") ≡ ((codes "true,\"discards\":[" ++ each) ++ codes "]") ++ codes "}"
-  ended each = sym (append_assoc (codes "true,\"discards\":[" ++ each) (codes "]") (codes "}") ∙ append_assoc (codes "true,\"discards\":[") each (codes "]}"))
-
   odds_members_are : (odds : FoundOdds) → AreFound parts turns odds → first_json odds ++ (each_json (each_of odds) ++ end_json odds) ≡ all_members (are_counted parts turns)
   odds_members_are Uncounted are = sym (ap all_members are)
   odds_members_are (Hand odds) are = ap (λ (o : Odds). (codes "true," ++ odds_members o) ++ codes "}") are.odds_are ∙ sym (ap (λ (t : Bool). counted_members t ++ codes "}") are.thirteen) ∙ sym (ap all_members are.counted)
   odds_members_are (Discards each) are =
-      ap (λ (es : List DiscardOdds). codes "true,\"discards\":[" ++ (each_json es ++ codes "]}")) are.odds_are ∙ ended (each_json (best_odds parts turns))
+      ap (λ (es : List DiscardOdds). codes "true,\"discards\":[" ++ (each_json es ++ codes "]}")) are.odds_are ∙ list_ended (each_json (best_odds parts turns))
       ∙ sym (ap (λ (t : Bool). counted_members t ++ codes "}") are.fourteen) ∙ sym (ap all_members are.counted)
 
 -- ---- all that is told
@@ -92,16 +92,16 @@ module _ (parts : ShapeParts) (turns : ℕ) (found : FoundChances) (is : IsFound
 
   reasons_are : found_reasons found ≡ chances_reasons parts turns
   reasons_are =
-      odds_told hand_odds_reason (λ (es : List DiscardOdds). flat_map (after_reason es) es) refl (codes "\n  chances are counted to three-shanten, and for no more draws than there are tiles") parts turns found.odds is.are_found
+      odds_told hand_odds_reason (λ (es : List DiscardOdds). flat_map (after_reason es) es) refl uncounted_reason parts turns found.odds is.are_found
 
   members_are : found_members found ≡ chances_members parts turns
   members_are =
-      let front : List ℕ = front_json found.shanten found.turns found.unseen in
+      let front : List ℕ = front_json chances_name found.shanten found.turns found.unseen in
       let counted : List ℕ = if are_counted parts turns then counted_json parts turns else codes "false" in
       append_assoc front (first_json found.odds) (each_json (each_of found.odds) ++ end_json found.odds)
       ∙ ap (λ (t : List ℕ). front ++ t) (odds_members_are parts turns found.odds is.are_found)
       ∙ sym (append_assoc front counted (codes "}"))
-      ∙ ap (λ (t : List ℕ). (t ++ counted) ++ codes "}") (front_is front_json)
+      ∙ ap (λ (t : List ℕ). (t ++ counted) ++ codes "}") (front_is (front_json chances_name))
 
   pub chances_told : (form : StudiesForm) → found_told form found ≡ told_in form (Chances parts turns)
   chances_told Answers = text_is

@@ -2,5 +2,6 @@ pub mod ListedLemmas
 pub mod FaultLemmas
 pub mod FindingLemmas
 pub mod FoundLemmas
+pub mod WorthLemmas
 pub mod QuestionLemmas
 pub mod PartLemmas

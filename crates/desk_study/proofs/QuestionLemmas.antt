@@ -20,7 +20,7 @@ use Rattle.desk_lines.proofs.AnswerLemmas.{same_as_told}
 use Rattle.desk_lines.proofs.TellingLemmas.{report_of_more}
 use Rattle.desk_study.specs.Answers.{question_answer, question_answers, question_kind, question_kinds, studied, studied_kind, number_asked}
 use Rattle.desk_study.specs.declared.form.StudiesManner.{StudiesManner}
-use Rattle.desk_study.specs.Tellers.{HasAnswered, LineAsksChances}
+use Rattle.desk_study.specs.Tellers.{HasAnswered, LineWantsMemory}
 use Rattle.desk_study.specs.declared.questions.Questions.{Questions}
 
 -- ---- long lines, which are all answered alike
@@ -82,10 +82,10 @@ kinds_on number (line ∷ lines) more =
     ap (λ (others : List LineKind). question_kind number line ∷ others) (kinds_on (number + 1) lines more)
     ∙ ap (λ n. question_kind number line ∷ question_kinds (number + 1) lines ++ question_kinds n more) (one_before number (length lines) ∙ ap (λ k. number + k) (sym (length_more line lines)))
 
-pub tells_more : (first now : Questions) (number : ℕ) (line : List ℕ) (kind : LineKind) (lines told : List (List ℕ)) (report : DeskReport) (next : List ℕ) → kind ≡ question_kind number line → number ≡ length lines + 1 → IsToldAs 4096 line next
-    → HasAnswered first now lines told report → HasAnswered first now (lines ++ next ∷ []) (told ++ answers_in (question_answer now.manner number line)) (report_with report kind)
-tells_more first now number line kind lines told report next kind_is counted as_this tells = record {
-  alike = tells.alike;
+pub tells_more : (first now after : Questions) (number : ℕ) (line : List ℕ) (kind : LineKind) (lines told : List (List ℕ)) (report : DeskReport) (next : List ℕ) → kind ≡ question_kind number line → number ≡ length lines + 1 → IsToldAs 4096 line next
+    → after.manner ≡ now.manner → HasAnswered first now lines told report → HasAnswered first after (lines ++ next ∷ []) (told ++ answers_in (question_answer now.manner number line)) (report_with report kind)
+tells_more first now after number line kind lines told report next kind_is counted as_this manner_is tells = record {
+  alike = manner_is ∙ tells.alike;
   answers_are =
       ap (λ (t : List (List ℕ)). t ++ answers_in (question_answer now.manner number line)) tells.answers_are
       ∙ ap (λ (a : Option (List ℕ)). question_answers first.manner 1 lines ++ answers_in a) (ap (λ (m : StudiesManner). question_answer m number line) tells.alike ∙ answer_as_told first.manner number line next as_this ∙ ap (λ n. question_answer first.manner n next) number_is)
@@ -103,6 +103,6 @@ tells_more first now number line kind lines told report next kind_is counted as_
 -- ---- where memory is wanted
 
 -- a line that is answered as another asks for chances where that one does
-pub asks_too : (line next : List ℕ) → IsToldAs 4096 line next → LineAsksChances line → LineAsksChances next
-asks_too line next (inl e) asks = subst LineAsksChances e asks
+pub asks_too : (line next : List ℕ) → IsToldAs 4096 line next → LineWantsMemory line → LineWantsMemory next
+asks_too line next (inl e) asks = subst LineWantsMemory e asks
 asks_too line next (inr long) asks = absurd (let no = sym (long_study line long.0) ∙ asks.1 in cc)

@@ -15,9 +15,16 @@ use Rattle.riichi_study.specs.ChanceTexts.{are_counted, is_beaten}
 use Rattle.desk_json.specs.Parts.{listed, quoted_kind}
 
 -- the shanten, the turns that are to come, and how many tiles are unseen
-abbrev pub front_json : ℤ → ℕ → ℕ → List ℕ
-front_json shanten turns unseen =
-    codes "\"answer\":\"chances\",\"shanten\":" ++ signed_decimal shanten ++ codes ",\"turns\":" ++ decimal turns ++ codes ",\"unseen\":" ++ decimal unseen ++ codes ",\"counted\":"
+abbrev pub counted_front : ℤ → ℕ → ℕ → List ℕ
+counted_front shanten turns unseen =
+    codes "\"shanten\":" ++ signed_decimal shanten ++ codes ",\"turns\":" ++ decimal turns ++ codes ",\"unseen\":" ++ decimal unseen ++ codes ",\"counted\":"
+
+-- the same behind the name of the answer
+abbrev pub front_json : List ℕ → ℤ → ℕ → ℕ → List ℕ
+front_json name shanten turns unseen = name ++ counted_front shanten turns unseen
+
+abbrev pub chances_name : List ℕ
+chances_name = codes "\"answer\":\"chances\","
 
 -- a discard after which no play wins as often
 abbrev pub beaten_kind : Odds → DiscardOdds → Option ℕ
@@ -44,4 +51,4 @@ counted_json parts turns =
 
 abbrev pub chances_members : ShapeParts → ℕ → List ℕ
 chances_members parts turns =
-    front_json (shanten_of parts.tiles parts.melds) turns (unseen_of parts) ++ (if are_counted parts turns then counted_json parts turns else codes "false") ++ codes "}"
+    front_json chances_name (shanten_of parts.tiles parts.melds) turns (unseen_of parts) ++ (if are_counted parts turns then counted_json parts turns else codes "false") ++ codes "}"

@@ -1,5 +1,5 @@
 -- What is found of a question of chances, and what is told of it.
-use Rattle.std.specs.Prelude.{◌≡◌, ℕ, ◌≤◌, Bool, true, false, List, [], ◌++◌, Option, None, Some, All, codes, length}
+use Rattle.std.specs.Prelude.{◌≡◌, ℕ, ◌≤◌, Bool, true, false, List, [], ◌++◌, All, codes, length}
 use Rattle.std.specs.List.{flat_map}
 use Rattle.riichi_hand.specs.Hand.{is_thirteen}
 use Rattle.riichi_hand.specs.HandParts.{ShapeParts}
@@ -9,10 +9,8 @@ use Rattle.riichi_chances.specs.Odds.{ArePartsOfAll, best_odds, odds_of}
 use Rattle.riichi_chances.specs.declared.odds.DiscardOdds.{DiscardOdds}
 use Rattle.riichi_chances.specs.declared.odds.Odds.{Odds}
 use Rattle.riichi_chances_text.specs.OddsTexts.{odds_members, odds_text}
-use Rattle.riichi_study.specs.ChanceTexts.{after_reason, after_text, are_counted, front_text, hand_odds_reason}
-use Rattle.riichi_study.specs.declared.study.Study.{Study}
-use Rattle.riichi_study.specs.declared.study.Study.TheVariants as asks
-use Rattle.desk_study.specs.ChanceObjects.{each_json, front_json}
+use Rattle.riichi_study.specs.ChanceTexts.{after_reason, after_text, are_counted, front_text, hand_odds_reason, uncounted_reason}
+use Rattle.desk_study.specs.ChanceObjects.{chances_name, each_json, front_json}
 use Rattle.desk_study.specs.declared.form.StudiesForm.{StudiesForm}
 use Rattle.desk_study.specs.declared.form.StudiesForm.TheVariants.{Answers, Explained, Objects}
 use Rattle.desk_study.specs.declared.found.FoundChances.{FoundChances}
@@ -71,7 +69,7 @@ abbrev pub first_text : FoundOdds → List ℕ
 first_text odds = first_told odds_text (codes " chances none") odds
 
 abbrev pub first_reason : FoundOdds → List ℕ
-first_reason odds = first_told hand_odds_reason (codes "\n  chances are counted to three-shanten, and for no more draws than there are tiles") odds
+first_reason odds = first_told hand_odds_reason uncounted_reason odds
 
 abbrev pub first_json : FoundOdds → List ℕ
 first_json Uncounted = codes "false"
@@ -96,26 +94,9 @@ abbrev pub found_reasons : FoundChances → List ℕ
 found_reasons found = first_reason found.odds ++ flat_map (after_reason (each_of found.odds)) (each_of found.odds)
 
 abbrev pub found_members : FoundChances → List ℕ
-found_members found = (front_json found.shanten found.turns found.unseen ++ first_json found.odds) ++ (each_json (each_of found.odds) ++ end_json found.odds)
+found_members found = (front_json chances_name found.shanten found.turns found.unseen ++ first_json found.odds) ++ (each_json (each_of found.odds) ++ end_json found.odds)
 
 abbrev pub found_told : StudiesForm → FoundChances → List ℕ
 found_told Answers found = found_text found
 found_told Explained found = found_text found ++ found_reasons found
 found_told Objects found = found_members found
-
--- ---- of a study
-
--- what is found of the chances that a study asks for
-abbrev pub IsFoundOf : Study → Option FoundChances → Type 0
-IsFoundOf (asks.Chances parts turns) (Some found) = IsFound parts turns found
-IsFoundOf (asks.Chances parts turns) None = ⊥
-IsFoundOf (asks.Shape parts order) chances = Unit {0}
-IsFoundOf (asks.Calls parts) chances = Unit {0}
-IsFoundOf (asks.Safe parts) chances = Unit {0}
-
--- it asks for chances, for which memory may be wanted
-abbrev pub AsksChances : Study → Type 0
-AsksChances (asks.Chances parts turns) = Unit {0}
-AsksChances (asks.Shape parts order) = ⊥
-AsksChances (asks.Calls parts) = ⊥
-AsksChances (asks.Safe parts) = ⊥

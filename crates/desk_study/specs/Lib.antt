@@ -1,7 +1,10 @@
 pub mod SafeObjects
 pub mod ChanceObjects
+pub mod WorthObjects
 pub mod Objects
 pub mod Found
+pub mod FoundWorths
+pub mod Ahead
 pub mod Answers
 pub mod Tellers
 pub mod Parts

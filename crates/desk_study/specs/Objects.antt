@@ -13,11 +13,12 @@ use Rattle.riichi_deeper.specs.declared.gains.Call.{Call}
 use Rattle.riichi_deeper.specs.declared.outlook.Outlook.{Outlook}
 use Rattle.riichi_study.specs.declared.order.Order.{Order}
 use Rattle.riichi_study.specs.declared.prospect.Prospect.{Prospect}
-use Rattle.riichi_study.specs.Findings.{Finding, Hand, Discards, Calls, Safety, Chances}
+use Rattle.riichi_study.specs.Findings.{Finding, Hand, Discards, Calls, Safety, Chances, Worth}
 use Rattle.riichi_study.specs.Prospects.{order_word}
 use Rattle.desk_json.specs.Parts.{accepted_json, listed}
 use Rattle.desk_study.specs.SafeObjects.{safe_members}
 use Rattle.desk_study.specs.ChanceObjects.{chances_members}
+use Rattle.desk_study.specs.WorthObjects.{worth_answer_members}
 
 -- ---- a shape
 
@@ -71,3 +72,4 @@ finding_members (Calls shanten tile calls kong) =
     codes "\"answer\":\"calls\",\"shanten\":" ++ signed_decimal shanten ++ codes ",\"calls\":[" ++ calls_json calls ++ codes "],\"kong\":" ++ kong_json tile kong ++ codes "}"
 finding_members (Safety parts) = safe_members parts
 finding_members (Chances parts turns) = chances_members parts turns
+finding_members (Worth parts turns) = worth_answer_members parts turns

@@ -6,6 +6,7 @@ ghost use Rattle.desk_json.specs.Parts.{comma_if, quoted_kind};
 ghost use Rattle.desk_study.specs.Answers.{listed_next, something_there};
 ghost use Rattle.desk_study.specs.ChanceObjects as objects;
 ghost use Rattle.desk_study.specs.Found as spec;
+ghost use Rattle.desk_study.specs.WorthObjects.{worth_name};
 
 use crate::found::FoundOdds;
 use crate::objects::push_comma_if;
@@ -15,14 +16,17 @@ use riichi_chances::{DiscardOdds, Odds};
 use riichi_chances_text::{MOST_ODDS_MEMBERS, push_odds_members};
 use riichi_text::{MOST_I8, MOST_U8, push_kind, push_number};
 
-/// The bytes of what stands before the chances.
-pub(crate) const MOST_FRONT: usize = "\"answer\":\"chances\",\"shanten\":".len()
+/// The bytes of the longest shanten, turns and unseen tiles.
+const MOST_COUNTED: usize = "\"shanten\":".len()
     + MOST_I8
     + ",\"turns\":".len()
     + MOST_U8
     + ",\"unseen\":".len()
     + MOST_U8
     + ",\"counted\":".len();
+
+/// The bytes of what stands before what is counted.
+pub(crate) const MOST_FRONT: usize = "\"answer\":\"chances\",".len() + MOST_COUNTED;
 
 /// The bytes of the chances of thirteen tiles, or of what stands before those of each discard.
 pub(crate) const MOST_FIRST: usize = "true,\"discards\":[".len() + MOST_ODDS_MEMBERS;
@@ -36,18 +40,41 @@ const MOST_DISCARD: usize = ",{\"discard\":\"1m\",".len()
 pub(crate) const MOST_AFTER: usize = MOST_DISCARD + 14 * MOST_QUOTED + "]}".len();
 
 /// Writes the shanten, the turns that are to come, and how many tiles are unseen.
-pub(crate) fn push_chances_front(text: &mut JsonText, shanten: i8, turns: u8, unseen: u8)
-    requires { array_string_len text.old + MOST_FRONT ≤ JSON_ROOM }
-    ensures bytes { text.new.bytes ≡ text.old.bytes ++ objects.front_json shanten turns unseen }
-    ensures len { array_string_len text.new ≤ array_string_len text.old + MOST_FRONT }
+fn push_counted_front(text: &mut JsonText, shanten: i8, turns: u8, unseen: u8)
+    requires { array_string_len text.old + MOST_COUNTED ≤ JSON_ROOM }
+    ensures bytes { text.new.bytes
+        ≡ text.old.bytes ++ objects.counted_front shanten turns unseen }
+    ensures len { array_string_len text.new ≤ array_string_len text.old + MOST_COUNTED }
 {
-    text.push_str("\"answer\":\"chances\",\"shanten\":");
+    text.push_str("\"shanten\":");
     push_number(text, shanten);
     text.push_str(",\"turns\":");
     push_number(text, turns);
     text.push_str(",\"unseen\":");
     push_number(text, unseen);
     text.push_str(",\"counted\":");
+}
+
+/// Writes the same of chances, behind the name of the answer.
+pub(crate) fn push_chances_front(text: &mut JsonText, shanten: i8, turns: u8, unseen: u8)
+    requires { array_string_len text.old + MOST_FRONT ≤ JSON_ROOM }
+    ensures bytes { text.new.bytes
+        ≡ text.old.bytes ++ objects.front_json objects.chances_name shanten turns unseen }
+    ensures len { array_string_len text.new ≤ array_string_len text.old + MOST_FRONT }
+{
+    text.push_str("\"answer\":\"chances\",");
+    push_counted_front(text, shanten, turns, unseen);
+}
+
+/// Writes the same of a worth.
+pub(crate) fn push_worth_front(text: &mut JsonText, shanten: i8, turns: u8, unseen: u8)
+    requires { array_string_len text.old + MOST_FRONT ≤ JSON_ROOM }
+    ensures bytes { text.new.bytes
+        ≡ text.old.bytes ++ objects.front_json worth_name shanten turns unseen }
+    ensures len { array_string_len text.new ≤ array_string_len text.old + MOST_FRONT }
+{
+    text.push_str("\"answer\":\"worth\",");
+    push_counted_front(text, shanten, turns, unseen);
 }
 
 /// Writes whether they are counted, and the chances of thirteen tiles.

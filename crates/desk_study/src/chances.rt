@@ -4,6 +4,7 @@ ghost use Rattle.std.specs.List.{flat_map};
 ghost use Rattle.arrayvec.specs.ArrayString.{array_string_len};
 ghost use Rattle.riichi_chances.specs.Odds.{ArePartsOfAll};
 ghost use Rattle.desk_json.specs.Parts.{comma_if};
+ghost use Rattle.riichi_study.specs.ChanceTexts.{uncounted_reason};
 ghost use Rattle.desk_study.specs.Answers as room;
 ghost use Rattle.desk_study.specs.ChanceObjects as objects;
 ghost use Rattle.desk_study.specs.Found as spec;
@@ -27,7 +28,7 @@ use riichi_text::{ANSWER_ROOM, AnswerText};
 const MOST_FIRST: usize = MOST_CHANCES_FRONT + MOST_ODDS;
 
 /// The bytes of the words where nothing is counted.
-const MOST_UNCOUNTED: usize =
+pub(crate) const MOST_UNCOUNTED: usize =
     "\n  chances are counted to three-shanten, and for no more draws than there are tiles".len();
 
 /// The bytes of the longest line. No hand has more than fourteen discards.
@@ -119,12 +120,21 @@ fn push_first_reason(text: &mut AnswerText, odds: &FoundOdds)
         ≤ array_string_len text.old + MOST_UNCOUNTED + MOST_AFTER_REASON }
 {
     match odds {
-        FoundOdds::Uncounted => text.push_str(
-            "\n  chances are counted to three-shanten, and for no more draws than there are tiles",
-        ),
+        FoundOdds::Uncounted => push_uncounted(text),
         FoundOdds::Hand(odds) => push_hand_odds_reason(text, odds),
         FoundOdds::Discards(_) => {}
     }
+}
+
+/// Writes in words that nothing is counted.
+pub(crate) fn push_uncounted(text: &mut AnswerText)
+    requires { array_string_len text.old + MOST_UNCOUNTED ≤ ANSWER_ROOM }
+    ensures bytes { text.new.bytes ≡ text.old.bytes ++ uncounted_reason }
+    ensures len { array_string_len text.new ≤ array_string_len text.old + MOST_UNCOUNTED }
+{
+    text.push_str(
+        "\n  chances are counted to three-shanten, and for no more draws than there are tiles",
+    );
 }
 
 /// Puts the chances after each discard, in the line or in words.

@@ -1,14 +1,18 @@
 //! What is found of a question of chances, before any of it is put.
-ghost use Rattle.std.specs.Prelude.{◌≡◌, ◌≤◌, ◌-ℤ◌, ◌&&◌, ℕ, IfOk, length, nat_le, pos, true};
+ghost use Rattle.std.specs.Prelude.{◌≡◌, ◌≤◌, ◌-ℤ◌, ◌&&◌, ℕ, IfOk, OnErr, length, nat_le, pos, true};
 ghost use Rattle.riichi_shape.specs.Answer.{shape_answer_of};
+ghost use Rattle.riichi_chances.specs.Graph.{most_hands_in};
+ghost use Rattle.riichi_chances.specs.Reachable.{ComesToTooMany};
 ghost use Rattle.riichi_study.specs.ChanceTexts.{are_counted};
 ghost use Rattle.desk_study.specs.Found as spec;
 
-use riichi_chances::{ChancesFault, DiscardOdds, Odds, chances_of, discard_odds, unseen_tiles};
+use arrayvec::ArrayVec;
+use riichi_chances::{
+    DiscardOdds, HandPlace, Odds, Rows, TooManyHands, chances_of, discard_odds, unseen_tiles,
+};
 use riichi_hand::ShapeRecord;
 use riichi_shape::{Accepts, RowSource, ShapeAnswer, shape_with};
 use riichi_study::Turns;
-use std::alloc::{AllocError, Global};
 
 /// Chances are counted for hands that are no farther from a win.
 const MOST_SHANTEN: i8 = 3;
@@ -21,7 +25,7 @@ pub(crate) enum FoundOdds {
     /// Of thirteen tiles.
     Hand(Odds),
     /// Of fourteen tiles, after each of their best discards.
-    Discards(Vec<DiscardOdds>),
+    Discards(ArrayVec<DiscardOdds, 14>),
 }
 
 impl FoundOdds {
@@ -45,20 +49,23 @@ pub(crate) struct FoundChances {
     pub odds: FoundOdds,
 }
 
-/// Finds how likely a hand is to be ready, and to win, by so many draws. It takes memory for the hands that it may come to.
+/// Finds how likely a hand is to be ready, and to win, by so many draws. The hands that it may come to stand in places that are lent.
 pub(crate) fn find_chances<S: RowSource>(
-    alloc: Global,
+    places: &mut [HandPlace],
+    rows: &mut [Rows],
     source: &mut S,
     hand: &ShapeRecord,
     turns: Turns,
-) -> Result<FoundChances, AllocError>
-    ensures { IfOk result (spec.IsFound hand.now turns) }
+) -> Result<FoundChances, TooManyHands>
+    ensures found { IfOk result (spec.IsFound hand.now turns) }
+    ensures many { OnErr result
+        (ComesToTooMany (most_hands_in (length places.old) (length rows.old)) hand.now) }
 {
     let _shape = hand.tiles();
     let answer = shape_with(source, hand);
     let unseen = unseen_tiles(hand);
     let odds = if are_counted(answer.shanten, turns.count(), unseen) {
-        count(alloc, source, hand, turns, &answer)?
+        count(places, rows, source, hand, turns, &answer)?
     } else {
         FoundOdds::Uncounted
     };
@@ -71,7 +78,7 @@ pub(crate) fn find_chances<S: RowSource>(
 }
 
 /// Whether chances are counted for a hand of this shanten, where so many turns are to come and so many tiles are unseen.
-fn are_counted(shanten: i8, turns: u8, unseen: u8) -> bool
+pub(crate) fn are_counted(shanten: i8, turns: u8, unseen: u8) -> bool
     ensures { (lack : ℕ) → shanten ≡ pos lack -ℤ pos 1
         → result ≡ (nat_le lack 4 && nat_le turns unseen) }
 {
@@ -80,49 +87,32 @@ fn are_counted(shanten: i8, turns: u8, unseen: u8) -> bool
 
 /// Counts them for a hand of this answer.
 fn count<S: RowSource>(
-    alloc: Global,
+    places: &mut [HandPlace],
+    rows: &mut [Rows],
     source: &mut S,
     hand: &ShapeRecord,
     turns: Turns,
     answer: &ShapeAnswer,
-) -> Result<FoundOdds, AllocError>
+) -> Result<FoundOdds, TooManyHands>
     requires answer { answer.now ≡ shape_answer_of hand.now }
     requires counted { are_counted hand.now turns ≡ true }
     ensures found { IfOk result (spec.AreFound hand.now turns) }
     ensures parts { IfOk result spec.AreParts }
     ensures few { IfOk result (λ odds. length (spec.each_of odds) ≤ 14) }
-{
-    match count_all(alloc, source, hand, turns, answer) {
-        Ok(odds) => Ok(odds),
-        Err(_) => Err(AllocError),
-    }
-}
-
-/// The same, or why there is no answer: no list of hands is too long to be looked at.
-fn count_all<S: RowSource>(
-    alloc: Global,
-    source: &mut S,
-    hand: &ShapeRecord,
-    turns: Turns,
-    answer: &ShapeAnswer,
-) -> Result<FoundOdds, ChancesFault>
-    requires answer { answer.now ≡ shape_answer_of hand.now }
-    requires counted { are_counted hand.now turns ≡ true }
-    ensures found { IfOk result (spec.AreFound hand.now turns) }
-    ensures parts { IfOk result spec.AreParts }
-    ensures few { IfOk result (λ odds. length (spec.each_of odds) ≤ 14) }
+    ensures many { OnErr result
+        (ComesToTooMany (most_hands_in (length places.old) (length rows.old)) hand.now) }
 {
     let _shape = hand.tiles();
     let draws = turns.count();
     let _unseen = unseen_tiles(hand);
     match &answer.accepts {
         Accepts::Thirteen(_) => {
-            let chances = chances_of(alloc, source, hand, draws, usize::MAX)?;
+            let chances = chances_of(places, rows, source, hand, draws)?;
             Ok(FoundOdds::Hand(chances.at(draws)))
         }
         Accepts::Fourteen(discards) => {
             let _few = discards.len();
-            let each = discard_odds(alloc, source, hand, draws, usize::MAX)?;
+            let each = discard_odds(places, rows, source, hand, draws)?;
             Ok(FoundOdds::Discards(each))
         }
     }

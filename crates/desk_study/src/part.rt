@@ -27,7 +27,7 @@ impl Part {
         requires { number + length text.now < 2 ^ 64 }
         ensures { IfOk result (spec.IsAnswered manner number (lines text.now)) }
     {
-        let questions = Questions::new(alloc, manner);
+        let mut questions = Questions::new(alloc, manner);
         let mut rows = SuitMemo::new(alloc);
         let mut outbox = Outbox::new();
         let mut answers = Vec::new(alloc);

@@ -100,7 +100,7 @@ fn fill_many(hands: &Hands<'_>, shantens: &mut [i8], second: &mut [u16], good: &
 {
     let mut rows_kept = [KeptRow::of_nothing(); ROWS];
     let mut uppers_kept = [KeptUpper::of_nothing(); UPPERS];
-    let mut kept = LentMemo::new(&mut rows_kept, &mut uppers_kept);
+    let mut kept = LentMemo::new(&mut rows_kept, &mut uppers_kept, &mut []);
     fill_outlooks(&mut kept, hands, shantens, second, good)
 }
 

@@ -43,7 +43,7 @@ fn fill_many(hands: &Hands<'_>, shantens: &mut [i8]) -> usize
 {
     let mut rows_kept = [KeptRow::of_nothing(); ROWS];
     let mut uppers_kept = [KeptUpper::of_nothing(); UPPERS];
-    let mut kept = LentMemo::new(&mut rows_kept, &mut uppers_kept);
+    let mut kept = LentMemo::new(&mut rows_kept, &mut uppers_kept, &mut []);
     fill_shantens(&mut kept, hands, shantens)
 }
 

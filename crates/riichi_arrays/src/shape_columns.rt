@@ -109,7 +109,7 @@ fn fill_many(
 {
     let mut rows_kept = [KeptRow::of_nothing(); ROWS];
     let mut uppers_kept = [KeptUpper::of_nothing(); UPPERS];
-    let mut kept = LentMemo::new(&mut rows_kept, &mut uppers_kept);
+    let mut kept = LentMemo::new(&mut rows_kept, &mut uppers_kept, &mut []);
     fill_shapes(&mut kept, hands, shantens, accepts, live)
 }
 

@@ -1,3 +1,4 @@
 pub mod Additions
 pub mod Tally
 pub mod KindWords
+pub mod EqualRuns

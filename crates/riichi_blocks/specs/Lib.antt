@@ -1,7 +1,7 @@
 pub mod Kinds
 pub mod Held
 pub mod HandBlocks
-pub mod Tally
 pub mod BlockKinds
+pub mod Tally
 pub mod Pairs
 pub mod Waits

@@ -23,3 +23,8 @@ pair_fu parts kind =
 abbrev pub is_plain_pair : WinParts → HandBlock → Bool
 is_plain_pair parts (Pair kind) = pair_fu parts kind == 0
 is_plain_pair parts other = false
+
+-- the fu of a block that is a pair
+abbrev pub fu_if_pair : WinParts → HandBlock → ℕ
+fu_if_pair parts (Pair kind) = pair_fu parts kind
+fu_if_pair parts other = 0

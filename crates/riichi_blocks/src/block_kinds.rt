@@ -1,67 +1,37 @@
 //! Words on the kinds in blocks: their terminals and honours.
 ghost use Rattle.std.specs.Prelude.{◌≡◌};
-ghost use Rattle.std.specs.List.{list_all, list_any};
+ghost use Rattle.riichi_tiles.specs.HeldKinds.{kinds_where};
 ghost use Rattle.riichi_blocks.specs.BlockKinds as spec;
 
 use crate::HandBlock;
+use crate::kinds::orphans;
+use riichi_tiles::KindSet;
 
-/// A run 123 or 789.
-fn is_outer_run(low: usize) -> bool
-    ensures { result ≡ spec.is_outer_run low }
+/// The kinds with which a run 123 or 789 would begin, among them 1z and 7z. The bits of a set are written from 7z down to 1m.
+#[inline(always)]
+#[tactic(auto, unfolding(riichi_tiles::specs::HeldKinds::kinds_where))]
+fn outer_runs() -> KindSet
+    ensures { result ≡ kinds_where spec.is_outer_run }
 {
-    low % 9 == 0 || low % 9 == 6
+    KindSet::from_bits(0b1000001_001000001_001000001_001000001)
 }
 
-fn has_orphan(block: &HandBlock) -> bool
+#[inline(always)]
+#[tactic(auto, using(riichi_tiles::proofs::KindSets::where_at))]
+pub(crate) fn has_orphan(block: &HandBlock) -> bool
     ensures { result ≡ spec.has_orphan block.now }
 {
-    match block {
-        HandBlock::Run(low) => is_outer_run(low.index()),
-        HandBlock::Triplet { kind, .. } | HandBlock::Kong { kind, .. } | HandBlock::Pair(kind) => {
-            kind.is_orphan()
-        }
-    }
+    let kinds = if block.is_run() {
+        outer_runs()
+    } else {
+        orphans()
+    };
+    kinds.has(block.kind().index())
 }
 
-fn has_terminal(block: &HandBlock) -> bool
-    ensures { result ≡ spec.has_terminal block.now }
-{
-    match block {
-        HandBlock::Run(low) => is_outer_run(low.index()),
-        HandBlock::Triplet { kind, .. } | HandBlock::Kong { kind, .. } | HandBlock::Pair(kind) => {
-            kind.is_terminal()
-        }
-    }
-}
-
-fn has_honour(block: &HandBlock) -> bool
+#[inline(always)]
+pub(crate) fn has_honour(block: &HandBlock) -> bool
     ensures { result ≡ spec.has_honour block.now }
 {
-    match block {
-        HandBlock::Run(_) => false,
-        HandBlock::Triplet { kind, .. } | HandBlock::Kong { kind, .. } | HandBlock::Pair(kind) => {
-            kind.is_honour()
-        }
-    }
-}
-
-/// Whether each block has a terminal or an honour.
-pub fn all_have_orphans(blocks: &[HandBlock]) -> bool
-    ensures { result ≡ list_all spec.has_orphan blocks.now }
-{
-    blocks.iter().all(has_orphan)
-}
-
-/// Whether each block has a terminal.
-pub fn all_have_terminals(blocks: &[HandBlock]) -> bool
-    ensures { result ≡ list_all spec.has_terminal blocks.now }
-{
-    blocks.iter().all(has_terminal)
-}
-
-/// Whether some block is of winds or dragons.
-pub fn some_has_honour(blocks: &[HandBlock]) -> bool
-    ensures { result ≡ list_any spec.has_honour blocks.now }
-{
-    blocks.iter().any(has_honour)
+    !block.is_run() & block.kind().is_honour()
 }

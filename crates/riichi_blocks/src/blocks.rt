@@ -1,25 +1,34 @@
 //! The blocks of a hand, and words on them. A triplet is a triplet or a kong.
-ghost use Rattle.std.specs.Prelude.{◌≡◌, ◌<◌, ◌≤◌, [], ◌∷◌, ◌++◌, length, count_by, if◌then◌else◌};
-ghost use Rattle.std.specs.List.{list_any};
+ghost use Rattle.std.specs.Prelude.{◌≡◌, ◌*◌, ◌<◌, ◌≤◌, [], ◌∷◌, ◌++◌, length, count_by, nat_le};
+ghost use Rattle.std.specs.List.{list_all, list_any, sum_by};
+ghost use Rattle.riichi_blocks.specs.BlockKinds.{has_honour, has_orphan, has_terminal};
 ghost use Rattle.riichi_blocks.specs.HandBlocks as spec;
-ghost use Rattle.riichi_blocks.specs.declared.hand_block.HandBlock.TheVariants as variants;
+ghost use Rattle.riichi_blocks.specs.Tally.{set_fu};
 
 use crate::HandBlock;
+use crate::block_kinds::{has_honour, has_orphan};
 use arrayvec::ArrayVec;
-use riichi_tiles::Kind;
+use riichi_tiles::{Kind, KindSet};
 use std::marker::Model;
 
-/// The blocks of a whole hand, seen as their list. What conditions ask of them again and again is counted as they are pushed.
+/// The blocks of a whole hand, seen as their list. What conditions ask of them again and again is tallied as they are pushed.
 #[derive(Drop)]
 pub struct Blocks {
     list: ArrayVec<HandBlock, 9>,
-    // How many runs begin with each kind, and whether there is a triplet of it.
-    runs_from: [u8; 34],
-    triplets_of: [bool; 34],
+    // The kinds with which runs begin, and those with which two or more do.
+    runs_from: KindSet,
+    runs_again: KindSet,
+    // Those of triplets and kongs.
+    triplets_of: KindSet,
     runs: u8,
     triplets: u8,
     concealed: u8,
     kongs: u8,
+    // Whether each block has a terminal or an honour, and whether some block is of honours.
+    outer: bool,
+    honours: bool,
+    // What the sets earn.
+    fu: u16,
 }
 
 impl Model for Blocks {
@@ -31,7 +40,7 @@ impl Model for Blocks {
 
     ghost view = { λ b. b.list.items };
 
-    ghost invariant = { λ b. IsTally b.list.items b.runs_from b.triplets_of b.runs b.triplets b.concealed b.kongs };
+    ghost invariant = { λ b. IsTally b.list.items b.runs_from b.runs_again b.triplets_of b.runs b.triplets b.concealed b.kongs b.outer b.honours b.fu };
 }
 
 impl Blocks {
@@ -41,12 +50,16 @@ impl Blocks {
     {
         Blocks {
             list: ArrayVec::new(),
-            runs_from: [0; 34],
-            triplets_of: [false; 34],
+            runs_from: KindSet::new(),
+            runs_again: KindSet::new(),
+            triplets_of: KindSet::new(),
             runs: 0,
             triplets: 0,
             concealed: 0,
             kongs: 0,
+            outer: true,
+            honours: false,
+            fu: 0,
         }
     }
 
@@ -59,64 +72,33 @@ impl Blocks {
     }
 
     /// One more block, where there are fewer than nine.
+    #[inline(always)]
     pub fn push(&mut self, block: HandBlock)
         requires { length self.old < 9 }
         ensures { self.new ≡ self.old ++ block ∷ [] }
     {
-        match block {
-            HandBlock::Run(low) => self.push_run(low),
-            HandBlock::Triplet { kind, concealed } => self.push_triplet(kind, concealed),
-            HandBlock::Kong { kind, concealed } => self.push_kong(kind, concealed),
-            HandBlock::Pair(kind) => self.push_pair(kind),
-        }
-    }
-
-    fn push_run(&mut self, low: Kind)
-        requires { length self.old < 9 }
-        ensures { self.new ≡ self.old ++ variants.Run low ∷ [] }
-    {
-        self.list.push(HandBlock::Run(low));
-        self.runs_from[low.index()] += 1;
-        self.runs += 1;
-    }
-
-    #[tactic(auto, using(crate::proofs::Tally::IsTally_triplet))]
-    fn push_triplet(&mut self, kind: Kind, concealed: bool)
-        requires { length self.old < 9 }
-        ensures { self.new ≡ self.old ++ variants.Triplet kind concealed ∷ [] }
-    {
-        self.list.push(HandBlock::Triplet { kind, concealed });
-        self.triplets_of[kind.index()] = true;
-        self.triplets += 1;
-        self.concealed += one_if(concealed);
-    }
-
-    #[tactic(auto, using(crate::proofs::Tally::IsTally_kong))]
-    fn push_kong(&mut self, kind: Kind, concealed: bool)
-        requires { length self.old < 9 }
-        ensures { self.new ≡ self.old ++ variants.Kong kind concealed ∷ [] }
-    {
-        self.list.push(HandBlock::Kong { kind, concealed });
-        self.triplets_of[kind.index()] = true;
-        self.triplets += 1;
-        self.concealed += one_if(concealed);
-        self.kongs += 1;
-    }
-
-    fn push_pair(&mut self, kind: Kind)
-        requires { length self.old < 9 }
-        ensures { self.new ≡ self.old ++ variants.Pair kind ∷ [] }
-    {
-        self.list.push(HandBlock::Pair(kind));
+        let kind = block.kind();
+        let (is_run, is_triplet) = (block.is_run(), block.is_triplet());
+        let comes_again = is_run & self.runs_from.has(kind.index());
+        self.list.push(block);
+        self.runs_again.insert_if(kind, comes_again);
+        self.runs_from.insert_if(kind, is_run);
+        self.triplets_of.insert_if(kind, is_triplet);
+        self.runs += u8::from(is_run);
+        self.triplets += u8::from(is_triplet);
+        self.concealed += u8::from(block.is_concealed());
+        self.kongs += u8::from(block.is_kong());
+        self.outer = self.outer & has_orphan(&block);
+        self.honours = self.honours | has_honour(&block);
+        self.fu += block.set_fu();
     }
 
     /// Whether some block is the run from this kind on.
-    #[tactic(auto, using(crate::proofs::Tally::counted_any))]
     pub fn has_run(&self, low: usize) -> bool
         requires { low < 34 }
         ensures { result ≡ spec.has_run self.now low }
     {
-        self.runs_from[low] > 0
+        self.runs_from.has(low)
     }
 
     /// Whether some block is a triplet or a kong of this kind.
@@ -124,7 +106,7 @@ impl Blocks {
         requires { kind < 34 }
         ensures { result ≡ spec.has_triplet self.now kind }
     {
-        self.triplets_of[kind]
+        self.triplets_of.has(kind)
     }
 
     /// How many blocks are the run that this one is. None where it is no run.
@@ -132,9 +114,42 @@ impl Blocks {
         ensures { result ≡ spec.runs_equal_to self.now block.now }
     {
         match block {
-            HandBlock::Run(low) => self.runs_from[low.index()] as usize,
+            HandBlock::Run(low) => {
+                let runs = self.as_slice().iter();
+                runs.filter(|held| is_run_from(*low, held)).count()
+            }
             _ => 0,
         }
+    }
+
+    /// Whether two blocks are one run.
+    pub fn has_equal_runs(&self) -> bool
+        ensures { result
+            ≡ list_any (λ block. nat_le 2 (spec.runs_equal_to self.now block)) self.now }
+    {
+        !self.runs_again.is_empty()
+    }
+
+    /// Whether each block has a terminal or an honour.
+    pub fn all_have_orphans(&self) -> bool
+        ensures { result ≡ list_all has_orphan self.now }
+    {
+        self.outer
+    }
+
+    /// Whether each block has a terminal.
+    #[tactic(auto, using(crate::proofs::Tally::all_terminals))]
+    pub fn all_have_terminals(&self) -> bool
+        ensures { result ≡ list_all has_terminal self.now }
+    {
+        self.outer & !self.honours
+    }
+
+    /// Whether some block is of winds or dragons.
+    pub fn some_has_honour(&self) -> bool
+        ensures { result ≡ list_any has_honour self.now }
+    {
+        self.honours
     }
 
     /// How many blocks are runs.
@@ -172,11 +187,21 @@ impl Blocks {
     {
         self.kongs as usize
     }
+
+    /// The fu of the sets.
+    pub fn sets_fu(&self) -> u16
+        ensures value { result ≡ sum_by set_fu self.now }
+        ensures most { result ≤ 32 * length self.now }
+    {
+        self.fu
+    }
 }
 
-fn one_if(is_so: bool) -> u8
-    ensures value { result ≡ (if is_so then 1 else 0) }
-    ensures most { result ≤ 1 }
+fn is_run_from(low: Kind, block: &HandBlock) -> bool
+    ensures { result ≡ spec.is_run_from low block.now }
 {
-    if is_so { 1 } else { 0 }
+    match block {
+        HandBlock::Run(held) => *held == low,
+        _ => false,
+    }
 }

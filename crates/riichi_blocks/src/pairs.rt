@@ -1,6 +1,6 @@
 //! The pair, and the fu that it earns.
-ghost use Rattle.std.specs.Prelude.{◌≡◌, ◌≤◌};
-ghost use Rattle.std.specs.List.{list_any};
+ghost use Rattle.std.specs.Prelude.{◌≡◌, ◌≤◌, length};
+ghost use Rattle.std.specs.List.{list_any, sum_by};
 ghost use Rattle.riichi_blocks.specs.Pairs as spec;
 
 use crate::HandBlock;
@@ -42,4 +42,26 @@ pub fn has_plain_pair(blocks: &[HandBlock], win: &WinRecord) -> bool
     ensures { result ≡ list_any (spec.is_plain_pair win.now) blocks.now }
 {
     blocks.iter().any(|block| is_plain_pair(win, block))
+}
+
+fn fu_if_pair(win: &WinRecord, block: &HandBlock) -> u8
+    ensures value { result ≡ spec.fu_if_pair win.now block.now }
+    ensures most { result ≤ 6 }
+{
+    match block {
+        HandBlock::Pair(kind) => pair_fu(win, *kind),
+        _ => 0,
+    }
+}
+
+/// The fu of the pairs among at most nine blocks.
+pub fn pairs_fu(blocks: &[HandBlock], win: &WinRecord) -> u16
+    requires { length blocks.now ≤ 9 }
+    ensures { result ≡ sum_by (spec.fu_if_pair win.now) blocks.now }
+{
+    let mut sum = 0;
+    for block in blocks {
+        sum += u16::from(fu_if_pair(win, block));
+    }
+    sum
 }

@@ -22,10 +22,9 @@ use Rattle.riichi_deeper.proofs.DrawnLemmas.{is_thirteen_by, thirteen_is}
 use Rattle.riichi_deeper.specs.Drawn.{parts_with}
 use Rattle.riichi_chances.specs.Counted.{parts_less}
 use Rattle.riichi_chances.specs.Draws.{greatest}
-use Rattle.riichi_chances.specs.Graph.{AreBefore, AreLeft, AreRests, Grows, IsGraph, IsPlaceOf, LeadBefore, LeadTo, draws_value, draw_value, discard_kinds, placed_hand, rest_by, rests_value}
+use Rattle.riichi_chances.specs.Graph.{AreBefore, AreLeft, AreRests, Grows, HandGraph, IsGraph, IsPlaceOf, LeadBefore, LeadTo, discard_kinds, draw_value, draws_value, placed_hand, places_in, rest_by, rests_value}
 use Rattle.riichi_chances.specs.Laws.{IsFourteen, IsThirteen}
-use Rattle.riichi_chances.specs.declared.graph.Draw.{Draw}
-use Rattle.riichi_chances.specs.declared.graph.Graph.{Graph}
+use Rattle.riichi_chances.specs.declared.node.Draw.{Draw}
 use Rattle.riichi_chances.proofs.CountingLemmas.{kinds_more}
 use Rattle.riichi_chances.proofs.GraphLemmas.{before_grown, draws_same, hands_same, map_places}
 use Rattle.riichi_chances.proofs.NearestLemmas.{less_long, more_long, one_more_of}
@@ -70,99 +69,105 @@ rest_whole drawn rest kind is rest_is thirteen = record {
 
 -- ---- the draws so far
 
-pub record DrawsSoFar (parts : ShapeParts) (copies : List ℕ) (graph : Graph) (draws : List Draw) (number : ℕ) : Type 0 where
-  pub before : LeadBefore (length graph.nodes.items) draws
-  pub leads : (value : ShapeParts → ℕ) (least : ℕ) → draws_value (λ p. value (placed_hand parts graph.hands.keys p)) least draws + rest_of (rest_by value least parts) copies number ≡ rests_value value least parts
+pub record DrawsSoFar (parts : ShapeParts) (copies : List ℕ) (graph : HandGraph) (draws : List Draw) (number : ℕ) : Type 0 where
+  pub few : length draws ≤ number
+  pub before : LeadBefore (length graph.nodes) draws
+  pub leads : (value : ShapeParts → ℕ) (least : ℕ) → draws_value (λ p. value (placed_hand parts graph.hands p)) least draws + rest_of (rest_by value least parts) copies number ≡ rests_value value least parts
 
 pub no_draws_before : (most : ℕ) → LeadBefore most []
 no_draws_before most at draw low = absurd (omega (arith, low))
 
 module _ (parts : ShapeParts) (copies : List ℕ) where
-  pub draws_init : (graph : Graph) (accepted : List (ℕ × ℕ)) → accepted ≡ pairs_of copies → accepted ≡ accepted_of parts.tiles parts.melds parts.seen → DrawsSoFar parts copies graph [] 0
+  pub draws_init : (graph : HandGraph) (accepted : List (ℕ × ℕ)) → accepted ≡ pairs_of copies → accepted ≡ accepted_of parts.tiles parts.melds parts.seen → DrawsSoFar parts copies graph [] 0
   draws_init graph accepted e f = record {
-    before = no_draws_before (length graph.nodes.items);
+    few = omega arith;
+    before = no_draws_before (length graph.nodes);
     leads = λ value least. omega (arith, rest_all (rest_by value least parts) copies, ap (sum_by (rest_by value least parts)) (sym e ∙ f));
   }
 
-  module _ (before after : Graph) (is : IsGraph parts before) (grows : Grows parts before after) (number : ℕ) (low : number < 34) (draws more : List Draw) (so_far : DrawsSoFar parts copies before draws number) where
-    more_places : length before.nodes.items ≤ length after.nodes.items
+  module _ (before after : HandGraph) (is : IsGraph parts before) (grows : Grows parts before after) (number : ℕ) (low : number < 34) (draws more : List Draw) (so_far : DrawsSoFar parts copies before draws number) where
+    more_places : length before.nodes ≤ length after.nodes
     more_places = omega (arith, grows.more.longer, grows.whole.each, is.each)
 
-    grown_value : (value : ShapeParts → ℕ) (least : ℕ) → draws_value (λ p. value (placed_hand parts after.hands.keys p)) least draws ≡ draws_value (λ p. value (placed_hand parts before.hands.keys p)) least draws
+    grown_value : (value : ShapeParts → ℕ) (least : ℕ) → draws_value (λ p. value (placed_hand parts after.hands p)) least draws ≡ draws_value (λ p. value (placed_hand parts before.hands p)) least draws
     grown_value value least =
-        sym (draws_same (λ p. value (placed_hand parts before.hands.keys p)) (λ p. value (placed_hand parts after.hands.keys p)) least (length before.nodes.items) draws so_far.before (λ p small. hands_same parts before.hands.keys after.hands.keys grows.more value p (omega (arith, small, is.each))))
+        sym (draws_same (λ p. value (placed_hand parts before.hands p)) (λ p. value (placed_hand parts after.hands p)) least (length before.nodes) draws so_far.before (λ p small. hands_same parts before.hands after.hands grows.more value p (omega (arith, small, is.each))))
 
-    module _ (some : 0 < slice_index copies number) (place : ℕ) (place_is : place ≡ number) (drawn : ShapeParts) (drawn_is : drawn ≡ parts_with parts place) (draw : Draw) (live_is : draw.live ≡ slice_index copies number) (rests : List ℕ) (rests_are : draw.rests.items ≡ rests)
-        (lead : AreBefore (length after.nodes.items) rests) (are : AreRests after.hands.keys rests drawn) (more_is : more ≡ draws ++ draw ∷ []) where
-      own : (value : ShapeParts → ℕ) (least : ℕ) → draw_value (λ p. value (placed_hand parts after.hands.keys p)) least draw ≡ rest_by value least parts (number, slice_index copies number)
+    module _ (some : 0 < slice_index copies number) (place : ℕ) (place_is : place ≡ number) (drawn : ShapeParts) (drawn_is : drawn ≡ parts_with parts place) (draw : Draw) (live_is : draw.live ≡ slice_index copies number) (rests : List ℕ) (rests_are : (places_in draw.rests) ≡ rests)
+        (lead : AreBefore (length after.nodes) rests) (are : AreRests after.hands rests drawn) (more_is : more ≡ draws ++ draw ∷ []) where
+      own : (value : ShapeParts → ℕ) (least : ℕ) → draw_value (λ p. value (placed_hand parts after.hands p)) least draw ≡ rest_by value least parts (number, slice_index copies number)
       own value least =
-          ap (λ n. n * max (greatest (λ p. value (placed_hand parts after.hands.keys p)) draw.rests.items) least) live_is
-          ∙ ap (λ (ps : List ℕ). slice_index copies number * max (greatest (λ p. value (placed_hand parts after.hands.keys p)) ps) least) rests_are
-          ∙ ap (λ n. slice_index copies number * max n least) ((subst (λ (d : ShapeParts). AreRests after.hands.keys rests d) (drawn_is ∙ ap (parts_with parts) place_is) are) value)
+          ap (λ n. n * max (greatest (λ p. value (placed_hand parts after.hands p)) (places_in draw.rests)) least) live_is
+          ∙ ap (λ (ps : List ℕ). slice_index copies number * max (greatest (λ p. value (placed_hand parts after.hands p)) ps) least) rests_are
+          ∙ ap (λ n. slice_index copies number * max n least) ((subst (λ (d : ShapeParts). AreRests after.hands rests d) (drawn_is ∙ ap (parts_with parts) place_is) are) value)
 
-      last_before : LeadBefore (length after.nodes.items) (draws ++ draw ∷ [])
+      last_before : LeadBefore (length after.nodes) (draws ++ draw ∷ [])
       last_before at d small = ⊎_elim here (λ ne. there (omega (arith, small, ne, length-append draws (draw ∷ [])))) (cases_eq at (length draws))
         where
-          there : at < length draws → AreBefore (length after.nodes.items) (slice_index_or (draws ++ draw ∷ []) at d).rests.items
-          there less = subst (λ (it : Draw). AreBefore (length after.nodes.items) it.rests.items) (sym (get_or_append_left draws (draw ∷ []) d at less)) (before_grown (length before.nodes.items) (length after.nodes.items) draws more_places so_far.before at d less)
+          there : at < length draws → AreBefore (length after.nodes) (places_in (slice_index_or (draws ++ draw ∷ []) at d).rests)
+          there less = subst (λ (it : Draw). AreBefore (length after.nodes) (places_in it.rests)) (sym (get_or_append_left draws (draw ∷ []) d at less)) (before_grown (length before.nodes) (length after.nodes) draws more_places so_far.before at d less)
 
-          here : at ≡ length draws → AreBefore (length after.nodes.items) (slice_index_or (draws ++ draw ∷ []) at d).rests.items
-          here e = subst (λ (it : Draw). AreBefore (length after.nodes.items) it.rests.items) (sym (get_or_push draws draw d at (sym e))) (subst (AreBefore (length after.nodes.items)) (sym rests_are) lead)
+          here : at ≡ length draws → AreBefore (length after.nodes) (places_in (slice_index_or (draws ++ draw ∷ []) at d).rests)
+          here e = subst (λ (it : Draw). AreBefore (length after.nodes) (places_in it.rests)) (sym (get_or_push draws draw d at (sym e))) (subst (AreBefore (length after.nodes)) (sym rests_are) lead)
 
       pub draws_step : DrawsSoFar parts copies after more (number + 1)
       draws_step = subst (λ (ds : List Draw). DrawsSoFar parts copies after ds (number + 1)) (sym more_is) (record {
+        few = omega (arith, so_far.few, length-append draws (draw ∷ []));
         before = last_before;
-        leads = λ value least. omega (arith, sum_by_push (draw_value (λ p. value (placed_hand parts after.hands.keys p)) least) draws draw, grown_value value least, own value least, rest_some (rest_by value least parts) copies number low some, so_far.leads value least);
+        leads = λ value least. omega (arith, sum_by_push (draw_value (λ p. value (placed_hand parts after.hands p)) least) draws draw, grown_value value least, own value least, rest_some (rest_by value least parts) copies number low some, so_far.leads value least);
       })
 
-  pub draws_none : (graph : Graph) (draws : List Draw) (number : ℕ) → number < 34 → slice_index copies number ≤ 0 → DrawsSoFar parts copies graph draws number → DrawsSoFar parts copies graph draws (number + 1)
+  pub draws_none : (graph : HandGraph) (draws : List Draw) (number : ℕ) → number < 34 → slice_index copies number ≤ 0 → DrawsSoFar parts copies graph draws number → DrawsSoFar parts copies graph draws (number + 1)
   draws_none graph draws number low none so_far = record {
+    few = omega (arith, so_far.few);
     before = so_far.before;
     leads = λ value least. omega (arith, so_far.leads value least, rest_none (rest_by value least parts) copies number low none);
   }
 
-  pub draws_end : (graph : Graph) (draws : List Draw) (number : ℕ) → number ≡ 34 → DrawsSoFar parts copies graph draws number → LeadTo graph.hands.keys draws parts
+  pub draws_end : (graph : HandGraph) (draws : List Draw) (number : ℕ) → number ≡ 34 → DrawsSoFar parts copies graph draws number → LeadTo graph.hands draws parts
   draws_end graph draws number e so_far value least = omega (arith, so_far.leads value least, rest_end (rest_by value least parts) copies number e)
 
 -- ---- the places so far
 
-pub record RestsSoFar (drawn : ShapeParts) (discards : List Discard) (graph : Graph) (places : List ℕ) (at : ℕ) : Type 0 where
-  pub before : AreBefore (length graph.nodes.items) places
-  pub left : AreLeft graph.hands.keys places drawn.tiles (discard_kinds (take at discards))
+pub record RestsSoFar (drawn : ShapeParts) (discards : List Discard) (graph : HandGraph) (places : List ℕ) (at : ℕ) : Type 0 where
+  pub few : length places ≤ at
+  pub before : AreBefore (length graph.nodes) places
+  pub left : AreLeft graph.hands places drawn.tiles (discard_kinds (take at discards))
 
 module _ (drawn : ShapeParts) (discards : List Discard) where
-  pub rests_init : (graph : Graph) → RestsSoFar drawn discards graph [] 0
-  rests_init graph = record { before = λ k low. absurd (omega (arith, low)); left = refl }
+  pub rests_init : (graph : HandGraph) → RestsSoFar drawn discards graph [] 0
+  rests_init graph = record { few = omega arith; before = λ k low. absurd (omega (arith, low)); left = refl }
 
-  module _ (before after : Graph) (is : IsGraph drawn before) (grows : Grows drawn before after) (at : ℕ) (places more : List ℕ) (so_far : RestsSoFar drawn discards before places at) (short : ShortDiscard) (found : Some short ≡ option_map short_of (slice_get discards at)) (rest : ShapeParts)
+  module _ (before after : HandGraph) (is : IsGraph drawn before) (grows : Grows drawn before after) (at : ℕ) (places more : List ℕ) (so_far : RestsSoFar drawn discards before places at) (short : ShortDiscard) (found : Some short ≡ option_map short_of (slice_get discards at)) (rest : ShapeParts)
       (rest_is : rest ≡ parts_less drawn short.kind) (place : ℕ) (there : IsPlaceOf after rest place) (more_is : more ≡ places ++ place ∷ []) where
-    few_places : length before.nodes.items ≤ length after.nodes.items
+    few_places : length before.nodes ≤ length after.nodes
     few_places = omega (arith, grows.more.longer, grows.whole.each, is.each)
 
     abbrev was : ℕ → List ℕ
-    was p = slice_index_or before.hands.keys p []
+    was p = slice_index_or before.hands p []
 
     abbrev now : ℕ → List ℕ
-    now p = slice_index_or after.hands.keys p []
+    now p = slice_index_or after.hands p []
 
-    place_before : AreBefore (length after.nodes.items) (places ++ place ∷ [])
+    place_before : AreBefore (length after.nodes) (places ++ place ∷ [])
     place_before k low = ⊎_elim here (λ ne. other (omega (arith, low, ne, length-append places (place ∷ [])))) (cases_eq k (length places))
       where
-        other : k < length places → slice_index (places ++ place ∷ []) k < length after.nodes.items
+        other : k < length places → slice_index (places ++ place ∷ []) k < length after.nodes
         other less = omega (arith, get_or_append_left places (place ∷ []) 0 k less, so_far.before k less, few_places)
 
-        here : k ≡ length places → slice_index (places ++ place ∷ []) k < length after.nodes.items
+        here : k ≡ length places → slice_index (places ++ place ∷ []) k < length after.nodes
         here e = omega (arith, get_or_push places place 0 k (sym e), there.inside)
 
     pub rests_step : RestsSoFar drawn discards after more (at + 1)
     rests_step = subst (λ (ps : List ℕ). RestsSoFar drawn discards after ps (at + 1)) (sym more_is) (record {
+      few = omega (arith, so_far.few, length-append places (place ∷ []));
       before = place_before;
-      left = map_push now places place ∙ ap (λ (hands : List (List ℕ)). hands ++ now place ∷ []) (map_places now was (length before.nodes.items) places so_far.before (λ p small. grows.more.same p (omega (arith, small, is.each))) ∙ so_far.left)
+      left = map_push now places place ∙ ap (λ (hands : List (List ℕ)). hands ++ now place ∷ []) (map_places now was (length before.nodes) places so_far.before (λ p small. grows.more.same p (omega (arith, small, is.each))) ∙ so_far.left)
           ∙ ap (λ (hand : List ℕ). map (without_one drawn.tiles) (discard_kinds (take at discards)) ++ hand ∷ []) (there.is ∙ ap (λ (p : ShapeParts). p.tiles) rest_is)
           ∙ sym (map_push (without_one drawn.tiles) (discard_kinds (take at discards)) short.kind) ∙ ap (map (without_one drawn.tiles)) (sym (kinds_more discards at short found));
     })
 
-  pub rests_end : (graph : Graph) (places : List ℕ) (at : ℕ) → length discards ≤ at → RestsSoFar drawn discards graph places at → AreLeft graph.hands.keys places drawn.tiles (discard_kinds discards)
+  pub rests_end : (graph : HandGraph) (places : List ℕ) (at : ℕ) → length discards ≤ at → RestsSoFar drawn discards graph places at → AreLeft graph.hands places drawn.tiles (discard_kinds discards)
   rests_end graph places at past so_far = so_far.left ∙ ap (λ (ds : List Discard). map (without_one drawn.tiles) (discard_kinds ds)) (take_all at discards past)
 
 pub ok_as : {A E : Type 0} {P Q : A → Type 0} (r : Result A E) → ((value : A) → P value → Q value) → IfOk r P → IfOk r Q

@@ -3,6 +3,7 @@ use Rattle.std.proofs.Common.{◌≡◌, ℕ, zero, suc, ◌+◌, ◌-◌, ◌*�
 use Rattle.std.proofs.lemmas.Bool.{cases_lt, leb-false, lt-ltb}
 use Rattle.std.specs.Prelude.{sum_by, ◌&&◌}
 use Rattle.std.specs.List.{filter}
+use Rattle.riichi_hand.specs.HandParts.{ShapeParts}
 use Rattle.riichi_tiles.specs.Melds.{every_kind, tiles}
 use Rattle.riichi_tiles.specs.declared.meld.Meld.{Meld}
 use Rattle.riichi_tiles.proofs.Members.{IsIn, in-filter-inv, in-range-inv}
@@ -11,7 +12,7 @@ use Rattle.riichi_shape.specs.Accepted.{is_accepted, live_of, with_one, without_
 use Rattle.riichi_shape.specs.Discards.{is_discard}
 use Rattle.riichi_shape.specs.EveryWinning.{distance_of}
 use Rattle.riichi_deeper.specs.Drawn.{parts_with, parts_without}
-use Rattle.riichi_chances.specs.Draws.{all_draws, best_rest, draws, draws_behind, is_there, parts_passed, unseen_of}
+use Rattle.riichi_chances.specs.Draws.{all_draws, best_rest, draws, is_there, parts_passed, unseen_of, value_behind}
 use Rattle.riichi_chances.specs.Laws.{ChanceLaw}
 use Rattle.riichi_chances.proofs.BoundLemmas.{times_few}
 use Rattle.riichi_chances.proofs.CountedLemmas.{AgreeOnLacked, AreSame, is_lacked, one_less_same, parts_of, passed, passed_unseen, thrown_left, thrown_unseen}
@@ -31,32 +32,29 @@ with_some live a b less = ⊎_elim (λ some. times_few live live a b (omega arit
     no_live l e = omega (arith, ap (λ m. m * a) e, ap (λ m. m * b) e)
 
 module _ (melds : List Meld) (melded : (kind : ℕ) → kind < 34 → tiles melds kind ≤ 4) where
-  module _ (goal left : ℕ)
-      (later : (hand seen told : List ℕ) (n : ℕ) → AgreeOnLacked hand melds seen told → n ≡ unseen_of (parts_of hand melds seen) → draws goal (parts_of hand melds seen) left ≤ all_draws n left)
-      (hand seen told : List ℕ) (know : AgreeOnLacked hand melds seen told) (n : ℕ) (n_is : n ≡ unseen_of (parts_of hand melds seen)) where
+  -- where no reward is more than so much, and no value of what is left
+  module _ (goal most : ℕ) (reward : ℕ → ℕ) (value : ShapeParts → ℕ) (hand seen told : List ℕ) (know : AgreeOnLacked hand melds seen told) (n : ℕ) (n_is : n ≡ unseen_of (parts_of hand melds seen)) (reward_few : (kind : ℕ) → reward kind ≤ most)
+      (later : (hand seen told : List ℕ) → AgreeOnLacked hand melds seen told → n - 1 ≡ unseen_of (parts_of hand melds seen) → value (parts_of hand melds seen) ≤ most) where
     abbrev copies : ℕ → ℕ
     copies = live_of hand melds seen
 
-    abbrev most : ℕ
-    most = all_draws (n - 1) left
-
     abbrev after : ℕ → ℕ
-    after kind = draws_behind goal left (λ rest. draws goal rest left) (parts_of hand melds seen) kind
+    after kind = value_behind goal (reward kind) value (parts_of hand melds seen) kind
 
     one_fewer : (m : ℕ) → unseen_of (parts_of hand melds seen) ≡ m + 1 → n - 1 ≡ m
     one_fewer m e = omega (arith, n_is, e)
 
-    kept : (kind : ℕ) → kind < 34 → 0 < copies kind → is_lacked hand melds kind ≡ true → is_there goal (parts_with (parts_of hand melds seen) kind) ≡ false → best_rest (λ rest. draws goal rest left) (parts_with (parts_of hand melds seen) kind) ≤ most
-    kept kind inside some nearer not = greatest_few (λ thrown. draws goal (parts_without (parts_with (parts_of hand melds seen) kind) thrown) left) most (filter (is_discard (with_one hand kind) melds) every_kind) each
+    kept : (kind : ℕ) → kind < 34 → 0 < copies kind → is_lacked hand melds kind ≡ true → is_there goal (parts_with (parts_of hand melds seen) kind) ≡ false → best_rest value (parts_with (parts_of hand melds seen) kind) ≤ most
+    kept kind inside some nearer not = greatest_few (λ thrown. value (parts_without (parts_with (parts_of hand melds seen) kind) thrown)) most (filter (is_discard (with_one hand kind) melds) every_kind) each
       where
         not_there : 0 < distance_of (with_one hand kind) melds
         not_there = omega (arith, leb-false (distance_of (with_one hand kind) melds) goal not)
 
-        each : (thrown : ℕ) → IsIn thrown (filter (is_discard (with_one hand kind) melds) every_kind) → draws goal (parts_without (parts_with (parts_of hand melds seen) kind) thrown) left ≤ most
+        each : (thrown : ℕ) → IsIn thrown (filter (is_discard (with_one hand kind) melds) every_kind) → value (parts_without (parts_with (parts_of hand melds seen) kind) thrown) ≤ most
         each thrown there =
             let chosen = in-filter-inv (is_discard (with_one hand kind) melds) thrown every_kind there in
             let low : thrown < 34 = omega (arith, (in-range-inv 34 0 thrown chosen.0).1) in
-            later (without_one (with_one hand kind) thrown) (with_one seen thrown) told (n - 1) (thrown_left melds melded AreSame one_less_same hand seen told know kind inside some nearer not_there thrown low chosen.1)
+            later (without_one (with_one hand kind) thrown) (with_one seen thrown) told (thrown_left melds melded AreSame one_less_same hand seen told know kind inside some nearer not_there thrown low chosen.1)
             (one_fewer (unseen_of (parts_of (without_one (with_one hand kind) thrown) melds (with_one seen thrown))) (thrown_unseen melds melded AreSame one_less_same hand seen told know kind inside some nearer not_there thrown low chosen.1))
 
     by_tests : (t u v : Bool) → u ≡ (true && v) → (a b c : ℕ) → a ≤ most → (t ≡ false → v ≡ true → b ≤ most) → (v ≡ false → c ≤ most) → cond t a (cond u b c) ≤ most
@@ -72,9 +70,9 @@ module _ (melds : List Meld) (melded : (kind : ℕ) → kind < 34 → tiles meld
         some_live : 0 < copies kind → after kind ≤ most
         some_live some =
             by_tests (is_there goal (parts_with (parts_of hand melds seen) kind)) (is_accepted hand melds seen kind) (is_lacked hand melds kind) (ap (λ t. t && is_lacked hand melds kind) (lt-ltb 0 (copies kind) some))
-            (all_draws (unseen_of (parts_of hand melds seen) - 1) left) (best_rest (λ rest. draws goal rest left) (parts_with (parts_of hand melds seen) kind)) (draws goal (parts_passed (parts_of hand melds seen) kind) left)
-            (omega (arith, ap (λ m. all_draws (m - 1) left) n_is)) (λ not nearer. kept kind inside some nearer not)
-            (λ alone. later hand (with_one seen kind) told (n - 1) (passed melds melded AreSame one_less_same hand seen told know kind inside alone) (one_fewer (unseen_of (parts_of hand melds (with_one seen kind))) (passed_unseen melds melded AreSame one_less_same hand seen told know kind inside some)))
+            (reward kind) (best_rest value (parts_with (parts_of hand melds seen) kind)) (value (parts_passed (parts_of hand melds seen) kind))
+            (reward_few kind) (λ not nearer. kept kind inside some nearer not)
+            (λ alone. later hand (with_one seen kind) told (passed melds melded AreSame one_less_same hand seen told know kind inside alone) (one_fewer (unseen_of (parts_of hand melds (with_one seen kind))) (passed_unseen melds melded AreSame one_less_same hand seen told know kind inside some)))
 
     pub sum_few : sum_by (λ kind. copies kind * after kind) every_kind ≤ n * most
     unfolding unseen_of
@@ -88,7 +86,8 @@ module _ (melds : List Meld) (melded : (kind : ℕ) → kind < 34 → tiles meld
       by_test true e = omega (arith, e)
       by_test false e = omega arith
   draws_few goal (suc left) hand seen told n know n_is =
-      by_test (is_there goal (parts_of hand melds seen)) (omega (arith, ap (λ m. all_draws m (suc left)) n_is)) (omega (arith, all_more n left, sum_few goal left (draws_few goal left) hand seen told know n n_is))
+      by_test (is_there goal (parts_of hand melds seen)) (omega (arith, ap (λ m. all_draws m (suc left)) n_is))
+      (omega (arith, all_more n left, sum_few goal (all_draws (n - 1) left) (λ kind. all_draws (unseen_of (parts_of hand melds seen) - 1) left) (λ rest. draws goal rest left) hand seen told know n n_is (λ kind. omega (arith, ap (λ m. all_draws (m - 1) left) n_is)) (λ h s t. draws_few goal left h s t (n - 1))))
     where
       by_test : {a b m : ℕ} (t : Bool) → a ≤ m → b ≤ m → cond t a b ≤ m
       by_test true here there = here

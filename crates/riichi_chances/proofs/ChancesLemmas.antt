@@ -1,7 +1,7 @@
 -- The chances of each number of turns, one number more at a time.
-use Rattle.std.proofs.Common.{◌≡◌, ℕ, ◌+◌, ◌-◌, ◌<◌, ◌≤◌, true, cond, List, [], ◌∷◌, ◌++◌, map, take, drop, Some, length, length-append, slice_set, get_or-set_same, get_or-set_other, length-set, refl, sym, ap, subst, ◌∙◌, ⊎_elim, arith}
+use Rattle.std.proofs.Common.{◌≡◌, ℕ, ◌+◌, ◌-◌, ◌<◌, ◌≤◌, true, cond, List, [], ◌∷◌, ◌++◌, map, take, Some, length, length-append, slice_set, get_or-set_same, get_or-set_other, length-set, refl, sym, ap, subst, ◌∙◌, ⊎_elim, arith}
 use Rattle.std.proofs.lemmas.Bool.{cases_eq}
-use Rattle.std.proofs.lemmas.List.{append-nil, drop_all, get_or-map, get_or_append_left, get_or_default, get_or_push, length-map, map_push, take_all, take_more}
+use Rattle.std.proofs.lemmas.List.{get_or-map, get_or_append_left, get_or_default, get_or_push, length-map, map_push, take_more}
 use Rattle.std.proofs.lemmas.List.Sums.{sum_by-set}
 use Rattle.std.specs.Option.{option_map}
 use Rattle.std.specs.Prelude.{min, slice_get, slice_index, slice_index_or}
@@ -15,20 +15,19 @@ use Rattle.riichi_shape.specs.declared.discard.Discard.{Discard}
 use Rattle.riichi_shape.specs.declared.discard.ShortDiscard.{ShortDiscard}
 use Rattle.riichi_shape.proofs.Choices.{is_chosen}
 use Rattle.riichi_deeper.specs.Drawn.{parts_without}
-use Rattle.riichi_chances.specs.Chances.{AreAfter, AreAfterAtMost, AreAllCounted, AreAtMost, AreChances, AreCounted, AreAllTold, IsNoPlayAbove, IsNoPlayAboveAfter, IsTold, parts_told}
+use Rattle.riichi_chances.specs.Chances.{AreAfter, AreAfterAtMost, AreAllCounted, AreAtMost, AreChances, AreCounted, AreAllTold, AreLong, IsNoPlayAbove, IsNoPlayAboveAfter, IsTold, parts_told}
 use Rattle.riichi_chances.specs.Aims.{HasRows, counted_in, numbers_for}
 use Rattle.riichi_chances.specs.AtMost.{most_of_all}
 use Rattle.riichi_chances.specs.Counted.{counted_draws, parts_less}
 use Rattle.riichi_chances.specs.Draws.{all_draws, draws, is_there, unseen_of}
-use Rattle.riichi_chances.specs.Graph.{AreBefore, AreLeft, AreRows, IsPlaceOf, discard_kinds, no_rows, placed_hand}
+use Rattle.riichi_chances.specs.Graph.{AreBefore, AreLeft, AreRows, HandGraph, IsPlaceOf, discard_kinds, no_rows, placed_hand}
 use Rattle.riichi_chances.specs.Laws.{IsFourteen, IsThirteen}
 use Rattle.riichi_chances.specs.declared.chances.Chances.{Chances}
 use Rattle.riichi_chances.specs.declared.discards.DiscardChances.{DiscardChances}
-use Rattle.riichi_chances.specs.declared.graph.Graph.{Graph}
 use Rattle.riichi_chances.specs.Plays.{DrawPlay, draws_by}
 use Rattle.riichi_chances.specs.declared.rows.Column.{Column}
 use Rattle.riichi_chances.specs.declared.rows.Column.TheVariants.{Ready, Win, ReadyAtMost, WinAtMost}
-use Rattle.riichi_chances.specs.declared.rows.Rows.{Rows}
+use Rattle.riichi_chances.specs.Rows.{Rows}
 use Rattle.riichi_chances.proofs.ChanceLemmas.{chance_law}
 use Rattle.riichi_chances.proofs.CountedLemmas.{counted_law, discard_counted, discard_unseen, knows_left}
 use Rattle.riichi_chances.proofs.CountingLemmas.{best_listed, kinds_more}
@@ -53,14 +52,6 @@ put_next value row after n v long before here is k low = ap (λ (ns : List ℕ).
   where
     at_last : k ≡ n → slice_index (slice_set row n v) k ≡ value k
     at_last e = subst (λ (m : ℕ). slice_index (slice_set row n v) m ≡ value m) (sym e) (get_or-set_same row n v 0 long ∙ here)
-
--- a place for each number of turns
-pub record AreLong (chances : Chances) : Type 0 where
-  pub ready : length chances.ready ≡ 19
-  pub win : length chances.win ≡ 19
-  pub ready_at_most : length chances.ready_at_most ≡ 19
-  pub win_at_most : length chances.win_at_most ≡ 19
-  pub all : length chances.all ≡ 19
 
 pub told_long : (turns : ℕ) (rows : Rows) (all : ℕ) (before after : Chances) → IsTold turns rows all before after → AreLong before → AreLong after
 told_long turns rows all before after told long = record {
@@ -92,7 +83,7 @@ next_below parts unseen n before after rows all small long so_far has g told = r
 
 -- ---- the hands at some places, one number of turns more
 
-module _ (turns number : ℕ) (rows : List Rows) (places : List ℕ) (first each : List Chances) (at : ℕ) (new : Chances) (row : Rows) (none : Chances) (low : at < length each) (inside : slice_index places at < length rows) (told : IsTold turns (slice_index_or rows (slice_index places at) row) number (slice_index_or each at none) new)
+module _ (turns number : ℕ) (rows : List Rows) (places : List ℕ) (first each : List Chances) (at : ℕ) (new : Chances) (row : Rows) (none : Chances) (low : at < length each) (inside : slice_index places at < length rows) (row_is : row ≡ slice_index_or rows (slice_index places at) row) (told : IsTold turns row number (slice_index_or each at none) new)
     (later : (k : ℕ) (chances : Chances) → at ≤ k → slice_index_or each k chances ≡ slice_index_or first k chances) where
   abbrev ToldAt : List Chances → ℕ → Rows → Chances → Type 0
   ToldAt after k r chances = IsTold turns (slice_index_or rows (slice_index places k) r) number (slice_index_or first k chances) (slice_index_or after k chances)
@@ -102,7 +93,7 @@ module _ (turns number : ℕ) (rows : List Rows) (places : List ℕ) (first each
     where
       here : IsTold turns (slice_index_or rows (slice_index places at) r) number (slice_index_or first at chances) new
       here = subst (λ (it : Rows). IsTold turns it number (slice_index_or first at chances) new) (get_or_default rows (slice_index places at) row r inside)
-          (subst (λ (it : Chances). IsTold turns (slice_index_or rows (slice_index places at) row) number it new) (get_or_default each at none chances low ∙ later at chances (omega arith)) told)
+          (subst (λ (it : Chances). IsTold turns (slice_index_or rows (slice_index places at) row) number it new) (get_or_default each at none chances low ∙ later at chances (omega arith)) (subst (λ (it : Rows). IsTold turns it number (slice_index_or each at none) new) row_is told))
 
       at_last : k ≡ at → ToldAt (slice_set each at new) k r chances
       at_last e = subst (λ (m : ℕ). ToldAt (slice_set each at new) m r chances) (sym e) (subst (IsTold turns (slice_index_or rows (slice_index places at) r) number (slice_index_or first at chances)) (sym (get_or-set_same each at new chances low)) here)
@@ -110,18 +101,14 @@ module _ (turns number : ℕ) (rows : List Rows) (places : List ℕ) (first each
   pub stay_next : (k : ℕ) (chances : Chances) → at + 1 ≤ k → slice_index_or (slice_set each at new) k chances ≡ slice_index_or first k chances
   stay_next k chances past = get_or-set_other each at k new chances (λ e. omega (arith, e, past)) ∙ later k chances (omega (arith, past))
 
--- what a slice wrote back
-pub written_back : (new items : List Chances) (size : ℕ) → length new ≡ length items → length items ≡ size → take size (new ++ drop (length new) items) ≡ new
-written_back new items size e f = ap (λ (rest : List Chances). take size (new ++ rest)) (drop_all (length new) items (omega (arith, e))) ∙ ap (take size) (append-nil new) ∙ take_all size new (omega (arith, e, f))
-
 module _ (places : List ℕ) (unseen count : ℕ) (before after : List Chances) (rows : List Rows) (number : ℕ) (small : count < 19) (told : AreAllTold count places rows number before after) (long : (at : ℕ) (chances : Chances) → at < length places → AreLong (slice_index_or before at chances)) where
   pub long_next : (at : ℕ) (chances : Chances) → at < length places → AreLong (slice_index_or after at chances)
   long_next at chances low = told_long count (slice_index_or rows (slice_index places at) no_rows) number (slice_index_or before at chances) (slice_index_or after at chances) (told at no_rows chances low) (long at chances low)
 
-  pub turns_next : (root : ShapeParts) (hands : List (List ℕ)) → AreBefore (length rows) places → AreRows (record { unseen = unseen; turns = count }) root hands rows → number ≡ all_draws (unseen - (count - count)) count
+  pub turns_next : (root : ShapeParts) (hands : List (List ℕ)) (most : ℕ) → AreBefore most places → AreRows (record { unseen = unseen; turns = count }) root hands most rows → number ≡ all_draws (unseen - (count - count)) count
       → ((at : ℕ) (chances : Chances) → at < length places → CountedBelow (placed_hand root hands (slice_index places at)) unseen count (slice_index_or before at chances))
       → (at : ℕ) (chances : Chances) → at < length places → CountedBelow (placed_hand root hands (slice_index places at)) unseen (count + 1) (slice_index_or after at chances)
-  turns_next root hands inside are all_is so_far at chances low =
+  turns_next root hands most inside are all_is so_far at chances low =
       let place = slice_index places at in
       next_below (placed_hand root hands place) unseen count (slice_index_or before at chances) (slice_index_or after at chances) (slice_index_or rows place no_rows) number small (long at chances low) (so_far at chances low)
       (are place (inside at low)) all_is (told at no_rows chances low)
@@ -154,6 +141,9 @@ are_at_most parts unseen turns chances n unseen_is are = record {
   win = λ k low. are.win_at_most k low ∙ ap (λ m. most_of_all 0 parts m k) unseen_is;
 }
 
+pub thirteen_most : (parts place : ShapeParts) (unseen turns : ℕ) (chances : Chances) → place ≡ parts → unseen ≡ unseen_of parts → AreCounted place unseen turns chances → AreAtMost parts (unseen_of parts) turns chances
+thirteen_most parts place unseen turns chances place_is unseen_is are = are_at_most parts unseen turns chances (unseen_of parts) unseen_is (subst (λ (p : ShapeParts). AreCounted p unseen turns chances) place_is are)
+
 -- no play has more
 pub no_play_above : (parts place : ShapeParts) (unseen turns : ℕ) (chances : Chances) → ((play : DrawPlay) (goal count : ℕ) → draws_by play [] goal parts count ≤ most_of_all goal place unseen count) → ((goal count : ℕ) → counted_draws goal place unseen count ≤ all_draws unseen count)
     → AreCounted place unseen turns chances → IsNoPlayAbove parts turns chances
@@ -174,7 +164,7 @@ pub of_thirteen : (parts place : ShapeParts) (unseen turns : ℕ) (chances : Cha
 of_thirteen parts place unseen turns chances is place_is unseen_is =
     are_chances parts place unseen turns chances is (λ goal count. counted_law goal parts count is ∙ ap (λ (p : ShapeParts). counted_draws goal p (unseen_of parts) count) (sym place_is) ∙ ap (λ n. counted_draws goal place n count) (sym unseen_is)) unseen_is
 
-pub placed : (graph : Graph) (parts : ShapeParts) (place : ℕ) → IsPlaceOf graph parts place → placed_hand parts graph.hands.keys place ≡ parts
+pub placed : (graph : HandGraph) (parts : ShapeParts) (place : ℕ) → IsPlaceOf graph parts place → placed_hand parts graph.hands place ≡ parts
 placed graph parts place there = ap (λ (tiles : List ℕ). same tiles) there.is
   where
     same : List ℕ → ShapeParts
@@ -221,8 +211,8 @@ told_alone parts rest kind turns chances won rest_is =
 
 module _ (drawn : ShapeParts) (is : IsFourteen drawn) (far : 0 < distance_of drawn.tiles drawn.melds) where
   module _ (kind : ℕ) (best : LeavesLeast drawn.tiles drawn.melds kind) where
-    whole : IsThirteen (parts_without drawn kind)
-    whole = record {
+    pub thirteen_left : IsThirteen (parts_without drawn kind)
+    thirteen_left = record {
       each_kind = less_long drawn.tiles kind is.each_kind;
       each_seen = more_long drawn.seen kind is.each_seen;
       thirteen = omega (arith, sum_by-set (λ (n : ℕ). n) drawn.tiles kind (slice_index drawn.tiles kind - 1) 0 (omega (arith, is.each_kind, best.is_kind)), is.fourteen, best.held);
@@ -231,7 +221,7 @@ module _ (drawn : ShapeParts) (is : IsFourteen drawn) (far : 0 < distance_of dra
 
     of_discard : (unseen turns : ℕ) (chances : Chances) → unseen ≡ unseen_of drawn → AreCounted (parts_less drawn kind) unseen turns chances → AreChances (parts_without drawn kind) turns chances
     of_discard unseen turns chances unseen_is =
-        are_chances (parts_without drawn kind) (parts_less drawn kind) unseen turns chances whole
+        are_chances (parts_without drawn kind) (parts_less drawn kind) unseen turns chances thirteen_left
         (λ goal count. discard_counted goal count kind drawn is far best.is_kind (is_chosen drawn.tiles drawn.melds kind best) ∙ ap (λ n. counted_draws goal (parts_less drawn kind) n count) (sym unseen_is)) (unseen_is ∙ discard_unseen drawn is kind best.is_kind best.held)
 
     plays_after : (unseen turns : ℕ) (chances : Chances) → unseen ≡ unseen_of drawn → AreCounted (parts_less drawn kind) unseen turns chances → IsNoPlayAbove (parts_without drawn kind) turns chances
@@ -241,7 +231,7 @@ module _ (drawn : ShapeParts) (is : IsFourteen drawn) (far : 0 < distance_of dra
         (knows_left drawn.melds is.melded NoMore drawn.tiles drawn.seen drawn.seen is.each_kind is.each_seen is.each_seen is.fourteen far kind best.is_kind (is_chosen drawn.tiles drawn.melds kind best) (λ other small lacked. omega arith)) (unseen_is ∙ discard_unseen drawn is kind best.is_kind best.held))
         (λ goal count. omega (
           arith,
-          chance_law goal (parts_without drawn kind) count whole,
+          chance_law goal (parts_without drawn kind) count thirteen_left,
           discard_counted goal count kind drawn is far best.is_kind (is_chosen drawn.tiles drawn.melds kind best),
           ap (λ n. counted_draws goal (parts_less drawn kind) n count) unseen_is,
           ap (λ n. all_draws n count) (unseen_is ∙ discard_unseen drawn is kind best.is_kind best.held),

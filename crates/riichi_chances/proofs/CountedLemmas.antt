@@ -19,8 +19,8 @@ use Rattle.riichi_shape.proofs.Choices.{leaves_least}
 use Rattle.riichi_shape.proofs.LiveLemmas.{sum_filtered}
 use Rattle.riichi_deeper.proofs.DrawnLemmas.{more_here, more_other, size_with}
 use Rattle.riichi_deeper.specs.Drawn.{parts_with, parts_without}
-use Rattle.riichi_chances.specs.Counted.{accepts, counted_draws, counted_by, counted_rest, counted_with, accepted_draws, parts_less}
-use Rattle.riichi_chances.specs.Draws.{all_draws, best_rest, draws, draws_behind, is_there, parts_passed, unseen_of}
+use Rattle.riichi_chances.specs.Counted.{accepts, counted_behind, counted_draws, counted_rest, counted_with, accepted_draws, parts_less}
+use Rattle.riichi_chances.specs.Draws.{all_draws, best_rest, draws, is_there, parts_passed, unseen_of, value_behind}
 use Rattle.riichi_chances.specs.Laws.{CountedLaw, IsFourteen}
 use Rattle.riichi_chances.proofs.LiveDraws.{discard_live, drawn_live, every_but_one, every_same, passed_live}
 use Rattle.riichi_chances.proofs.NearestLemmas.{best_keeps, less_long, lowered_before, more_long, not_thrown}
@@ -191,59 +191,52 @@ module _ (melds : List Meld) (melded : (kind : ℕ) → kind < 34 → tiles meld
         spread_shift (λ k. cond (is_accepted hand melds seen k) (f k (live_of hand melds seen k)) 0) (λ k. cond (is_accepted hand melds told k) (f k (live_of hand melds told k)) 0) 0 0 34
         (λ k low. same_at (0 + k) (f (0 + k)) (live_of hand melds seen (0 + k)) (live_of hand melds told (0 + k)) (is_lacked hand melds (0 + k)) (know.alike (0 + k) (omega arith)))
 
-  -- ---- one turn
+  -- ---- one turn: each kind has a reward, and thirteen tiles have a value by both accounts
 
-  module _ (goal left : ℕ)
-      (later : (hand seen told : List ℕ) (n : ℕ) → AgreeOnLacked hand melds seen told → n ≡ unseen_of (parts_of hand melds seen) → draws goal (parts_of hand melds seen) left ≡ counted_draws goal (parts_of hand melds told) n left)
-      (hand seen told : List ℕ) (know : AgreeOnLacked hand melds seen told) (n : ℕ) (n_is : n ≡ unseen_of (parts_of hand melds seen)) (far : is_there goal (parts_of hand melds seen) ≡ false) where
+  module _ (goal : ℕ) (reward : ℕ → ℕ) (value told_value : ShapeParts → ℕ)
+      (hand seen told : List ℕ) (know : AgreeOnLacked hand melds seen told) (n : ℕ) (n_is : n ≡ unseen_of (parts_of hand melds seen)) (far : is_there goal (parts_of hand melds seen) ≡ false)
+      (later : (hand seen told : List ℕ) → AgreeOnLacked hand melds seen told → n - 1 ≡ unseen_of (parts_of hand melds seen) → value (parts_of hand melds seen) ≡ told_value (parts_of hand melds told)) where
     abbrev copies : ℕ → ℕ
     copies = live_of hand melds seen
 
-    abbrev drawn_value : ShapeParts → ℕ
-    drawn_value rest = draws goal rest left
-
-    abbrev told_value : ShapeParts → ℕ
-    told_value rest = counted_draws goal rest (n - 1) left
-
     abbrev after : ℕ → ℕ
-    after kind = draws_behind goal left drawn_value (parts_of hand melds seen) kind
+    after kind = value_behind goal (reward kind) value (parts_of hand melds seen) kind
 
     abbrev by : ℕ → ℕ
-    by kind = counted_with goal (n - 1) left told_value (parts_with (parts_of hand melds told) kind)
+    by kind = counted_behind goal (reward kind) told_value (parts_with (parts_of hand melds told) kind)
 
     abbrev common : ℕ
-    common = counted_draws goal (parts_of hand melds told) (n - 1) left
+    common = told_value (parts_of hand melds told)
 
     one_fewer : (m : ℕ) → unseen_of (parts_of hand melds seen) ≡ m + 1 → n - 1 ≡ m
     one_fewer m e = omega (arith, n_is, e)
 
     kept : (kind : ℕ) → kind < 34 → 0 < copies kind → is_lacked hand melds kind ≡ true → is_there goal (parts_with (parts_of hand melds told) kind) ≡ false
-        → best_rest drawn_value (parts_with (parts_of hand melds seen) kind) ≡ counted_rest told_value (parts_with (parts_of hand melds told) kind)
+        → best_rest value (parts_with (parts_of hand melds seen) kind) ≡ counted_rest told_value (parts_with (parts_of hand melds told) kind)
     unfolding counted_rest
     kept kind inside some nearer not =
-        greatest_same (λ thrown. drawn_value (parts_without (parts_with (parts_of hand melds seen) kind) thrown)) (λ thrown. told_value (parts_less (parts_with (parts_of hand melds told) kind) thrown)) (filter (is_discard (with_one hand kind) melds) every_kind) each
+        greatest_same (λ thrown. value (parts_without (parts_with (parts_of hand melds seen) kind) thrown)) (λ thrown. told_value (parts_less (parts_with (parts_of hand melds told) kind) thrown)) (filter (is_discard (with_one hand kind) melds) every_kind) each
       where
         not_there : 0 < distance_of (with_one hand kind) melds
         not_there = omega (arith, leb-false (distance_of (with_one hand kind) melds) goal not)
 
-        each : (thrown : ℕ) → IsIn thrown (filter (is_discard (with_one hand kind) melds) every_kind) → drawn_value (parts_without (parts_with (parts_of hand melds seen) kind) thrown) ≡ told_value (parts_less (parts_with (parts_of hand melds told) kind) thrown)
+        each : (thrown : ℕ) → IsIn thrown (filter (is_discard (with_one hand kind) melds) every_kind) → value (parts_without (parts_with (parts_of hand melds seen) kind) thrown) ≡ told_value (parts_less (parts_with (parts_of hand melds told) kind) thrown)
         each thrown there =
             let chosen = in-filter-inv (is_discard (with_one hand kind) melds) thrown every_kind there in
             let low : thrown < 34 = omega (arith, (in-range-inv 34 0 thrown chosen.0).1) in
-            later (without_one (with_one hand kind) thrown) (with_one seen thrown) told (n - 1) (thrown_left melds melded AreSame one_less_same hand seen told know kind inside some nearer not_there thrown low chosen.1)
+            later (without_one (with_one hand kind) thrown) (with_one seen thrown) told (thrown_left melds melded AreSame one_less_same hand seen told know kind inside some nearer not_there thrown low chosen.1)
             (one_fewer (unseen_of (parts_of (without_one (with_one hand kind) thrown) melds (with_one seen thrown))) (thrown_unseen melds melded AreSame one_less_same hand seen told know kind inside some nearer not_there thrown low chosen.1))
 
     accepted_value : (kind : ℕ) → kind < 34 → is_accepted hand melds seen kind ≡ true → after kind ≡ by kind
-    unfolding counted_with
     accepted_value kind inside accepted =
         let tests = and_parts (nat_lt 0 (copies kind)) (is_lacked hand melds kind) accepted in
-        by_test (is_there goal (parts_with (parts_of hand melds told) kind)) (is_accepted hand melds seen kind) accepted
-        (drawn_value (parts_passed (parts_of hand melds seen) kind)) (ap (λ m. all_draws (m - 1) left) (sym n_is)) (kept kind inside (ltb-true 0 (copies kind) tests.0) tests.1)
+        by_test (reward kind) (is_there goal (parts_with (parts_of hand melds told) kind)) (is_accepted hand melds seen kind) accepted
+        (value (parts_passed (parts_of hand melds seen) kind)) (kept kind inside (ltb-true 0 (copies kind) tests.0) tests.1)
       where
-        by_test : {a b c d : ℕ} (t u : Bool) → u ≡ true → (e : ℕ) → a ≡ c → (t ≡ false → b ≡ d) → cond t a (cond u b e) ≡ cond t c d
-        by_test true u is e here there = here
-        by_test false true is e here there = there refl
-        by_test false false is e here there = absurd (cc)
+        by_test : (a : ℕ) {b d : ℕ} (t u : Bool) → u ≡ true → (e : ℕ) → (t ≡ false → b ≡ d) → cond t a (cond u b e) ≡ cond t a d
+        by_test a true u is e there = refl
+        by_test a false true is e there = there refl
+        by_test a false false is e there = absurd (cc)
 
     other_value : (kind : ℕ) → kind < 34 → is_accepted hand melds seen kind ≡ false → copies kind * after kind ≡ copies kind * common
     other_value kind inside not = ⊎_elim some_live (λ none. no_live (copies kind) (after kind) common (omega (arith, none))) (cases_lt 0 (copies kind))
@@ -264,11 +257,11 @@ module _ (melds : List Meld) (melded : (kind : ℕ) → kind < 34 → tiles meld
         some_live some =
             let alone = not_lacked (nat_lt 0 (copies kind)) (is_lacked hand melds kind) not (lt-ltb 0 (copies kind) some) in
             ap (λ m. copies kind * m)
-            (by_test (all_draws (unseen_of (parts_of hand melds seen) - 1) left) (best_rest drawn_value (parts_with (parts_of hand melds seen) kind)) (is_there goal (parts_with (parts_of hand melds seen) kind)) (is_accepted hand melds seen kind) (no_nearer goal hand melds seen far kind alone) not
-            (later hand (with_one seen kind) told (n - 1) (passed melds melded AreSame one_less_same hand seen told know kind inside alone) (one_fewer (unseen_of (parts_of hand melds (with_one seen kind))) (passed_unseen melds melded AreSame one_less_same hand seen told know kind inside some))))
+            (by_test (reward kind) (best_rest value (parts_with (parts_of hand melds seen) kind)) (is_there goal (parts_with (parts_of hand melds seen) kind)) (is_accepted hand melds seen kind) (no_nearer goal hand melds seen far kind alone) not
+            (later hand (with_one seen kind) told (passed melds melded AreSame one_less_same hand seen told know kind inside alone) (one_fewer (unseen_of (parts_of hand melds (with_one seen kind))) (passed_unseen melds melded AreSame one_less_same hand seen told know kind inside some))))
 
-    pub one_turn : sum_by (λ kind. copies kind * after kind) every_kind ≡ (n - live_in (accepts (parts_of hand melds told))) * common + accepted_draws goal (n - 1) left told_value (parts_of hand melds told)
-    unfolding accepted_draws unseen_of
+    pub one_turn : sum_by (λ kind. copies kind * after kind) every_kind ≡ (n - live_in (accepts (parts_of hand melds told))) * common + sum_by (λ (accepted : ℕ × ℕ). accepted.1 * by accepted.0) (accepts (parts_of hand melds told))
+    unfolding unseen_of
     one_turn =
         let few = spread (λ k. cond (is_accepted hand melds seen k) (copies k) 0) 0 34 in
         let some = spread (λ k. cond (is_accepted hand melds seen k) (copies k * by k) 0) 0 34 in
@@ -278,15 +271,17 @@ module _ (melds : List Meld) (melded : (kind : ℕ) → kind < 34 → tiles meld
         (parted copies after by (is_accepted hand melds seen) common 0 34 (λ k low. (accepted_value k (omega arith), other_value k (omega arith))))
         ∙ ap (λ m. (m - few) * common + some) (sym (n_is ∙ sum_range copies 0 34))
         ∙ ap (λ m. (n - m) * common + some) (same_accepted hand seen told know (λ k l. l) ∙ sym (accepted_sum (λ pair. pair.1) hand melds told))
-        ∙ ap (λ m. (n - live_in (accepts (parts_of hand melds told))) * common + m) (same_accepted hand seen told know (λ k l. l * by k) ∙ sym (accepted_sum (counted_by goal (n - 1) left told_value (parts_of hand melds told)) hand melds told))
+        ∙ ap (λ m. (n - live_in (accepts (parts_of hand melds told))) * common + m) (same_accepted hand seen told know (λ k l. l * by k) ∙ sym (accepted_sum (λ accepted. accepted.1 * by accepted.0) hand melds told))
 
   -- ---- any number of turns
 
   pub draws_counted : (goal turns : ℕ) (hand seen told : List ℕ) (n : ℕ) → AgreeOnLacked hand melds seen told → n ≡ unseen_of (parts_of hand melds seen) → draws goal (parts_of hand melds seen) turns ≡ counted_draws goal (parts_of hand melds told) n turns
-  unfolding draws counted_draws
+  unfolding draws counted_draws counted_with accepted_draws
   draws_counted goal zero hand seen told n know n_is = refl
   draws_counted goal (suc left) hand seen told n know n_is =
-      by_test (is_there goal (parts_of hand melds seen)) (ap (λ m. all_draws m (suc left)) (sym n_is)) (one_turn goal left (draws_counted goal left) hand seen told know n n_is)
+      by_test (is_there goal (parts_of hand melds seen)) (ap (λ m. all_draws m (suc left)) (sym n_is))
+      (λ far. ap (λ m. sum_by (λ kind. live_of hand melds seen kind * value_behind goal (all_draws (m - 1) left) (λ rest. draws goal rest left) (parts_of hand melds seen) kind) every_kind) (sym n_is)
+      ∙ one_turn goal (λ kind. all_draws (n - 1) left) (λ rest. draws goal rest left) (λ rest. counted_draws goal rest (n - 1) left) hand seen told know n n_is far (λ h s t. draws_counted goal left h s t (n - 1)))
     where
       by_test : {a b c d : ℕ} (t : Bool) → a ≡ c → (t ≡ false → b ≡ d) → cond t a b ≡ cond t c d
       by_test true here there = here

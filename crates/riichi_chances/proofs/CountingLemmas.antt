@@ -1,6 +1,6 @@
 -- The numbers of a hand by the numbers of those that it leads to.
 use Rattle.std.proofs.Common.{◌≡◌, ℕ, zero, suc, ◌+◌, ◌-◌, ◌*◌, ◌<◌, ◌≤◌, Bool, true, false, cond, Contains, max, inl, inr, List, [], ◌∷◌, ◌++◌, map, take, Some, None, length, refl, sym, ap, subst, ◌∙◌, arith}
-use Rattle.std.proofs.lemmas.Bool.{and_parts, leb-false, lt-ltb, ltb-true}
+use Rattle.std.proofs.lemmas.Bool.{and_parts, lt-ltb, ltb-true}
 use Rattle.std.proofs.lemmas.List.Sums.{sum_by-cons}
 use Rattle.std.specs.List.{filter}
 use Rattle.std.specs.Option.{option_map}
@@ -278,6 +278,3 @@ pub drawn_nearer : (parts : ShapeParts) (copies : List ℕ) (number place : ℕ)
 drawn_nearer parts copies number place drawn same low some place_is drawn_is =
     let tests = and_parts (nat_lt 0 (live_of parts.tiles parts.melds parts.seen number)) (nat_lt (distance_of (with_one parts.tiles number) parts.melds) (distance_of parts.tiles parts.melds)) (drawn_accepted parts copies number same low some) in
     omega (arith, ltb-true (distance_of (with_one parts.tiles number) parts.melds) (distance_of parts.tiles parts.melds) tests.1, ap (λ (p : ShapeParts). distance_of p.tiles p.melds) (drawn_is ∙ ap (parts_with parts) place_is))
-
-pub far_some : (goal : ℕ) (parts : ShapeParts) → is_there goal parts ≡ false → 0 < distance_of parts.tiles parts.melds
-far_some goal parts far = omega (arith, leb-false (distance_of parts.tiles parts.melds) goal far)

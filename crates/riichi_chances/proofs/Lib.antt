@@ -10,6 +10,7 @@ pub mod LiveDraws
 pub mod NearestLemmas
 pub mod OddsLemmas
 pub mod PlayLemmas
+pub mod PlaceLemmas
 pub mod ReachableLemmas
 pub mod RowLemmas
 pub mod SpanLemmas

@@ -55,7 +55,7 @@ fourteen_odds drawn turns each kinds are most =
     (λ place one low. by_chances (parts_without drawn (slice_index_or each place one).kind) (parts_told drawn (slice_index_or each place one).kind) turns (slice_index_or each place one).chances (are place one low) (most place one low))
 
 -- where there are as many tiles as draws
-all_some : (unseen turns : ℕ) → turns ≤ unseen → 0 < all_draws unseen turns
+pub all_some : (unseen turns : ℕ) → turns ≤ unseen → 0 < all_draws unseen turns
 all_some unseen zero few = omega (arith, all_none unseen)
 all_some unseen (suc turns) few = by_rest unseen (all_draws (unseen - 1) turns) (omega (arith, few)) (all_some (unseen - 1) turns (omega (arith, few))) (all_more unseen turns)
   where

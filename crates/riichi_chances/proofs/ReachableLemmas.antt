@@ -1,13 +1,15 @@
 -- The hands of a graph are those that may be come to.
-use Rattle.std.proofs.Common.{◌≡◌, ℕ, zero, suc, ◌+◌, ◌*◌, ◌<◌, ◌≤◌, Bool, true, false, ◌⊎◌, cond, max, All, Contains, IsErrAnd, OnOk, Some, Result, Ok, Err, List, [], ◌∷◌, ◌++◌, inl, inr, length, length-append, map, take, refl, sym, ap, subst, ◌∙◌, ⊎_elim, arith}
+use Rattle.std.proofs.Common.{◌≡◌, ℕ, zero, suc, ◌+◌, ◌*◌, ◌<◌, ◌≤◌, Bool, true, false, ◌⊎◌, cond, max, All, Contains, OnErr, OnOk, Some, Result, Ok, Err, List, [], ◌∷◌, ◌++◌, inl, inr, length, length-append, map, take, refl, sym, ap, subst, ◌∙◌, ⊎_elim, arith}
 use Rattle.std.proofs.lemmas.Bool.{and_parts, cases_eq, ltb-true}
 use Rattle.std.proofs.lemmas.Bool.Decides.{nat_tests}
 use Rattle.std.proofs.lemmas.List.{get_or_append_left, get_or_default, get_or_push}
 use Rattle.std.proofs.lemmas.List.Sums.{sum_by-cons}
-use Rattle.std.proofs.lemmas.Result.{err_from_is_err_and}
+use Rattle.std.proofs.lemmas.Cmp.{nat_list_eq_equiv}
+use Rattle.std.proofs.lemmas.Map.Keys.{IsDistinct-push}
 use Rattle.std.specs.Cmp.Lexicographic.{other_text, pointwise, same_text}
-use Rattle.std.specs.List.{filter}
+use Rattle.std.specs.List.{IsDistinct, filter}
 use Rattle.std.specs.Prelude.{nat_eq, nat_le, nat_lt, option_map, slice_get, slice_index_or, sum_by}
+use Rattle.riichi_hand.specs.Hand.{is_thirteen}
 use Rattle.riichi_hand.specs.HandParts.{ShapeParts}
 use Rattle.riichi_tiles.specs.Melds.{every_kind}
 use Rattle.riichi_tiles.specs.declared.meld.Meld.{Meld}
@@ -23,13 +25,11 @@ use Rattle.riichi_shape.proofs.Choices.{is_chosen}
 use Rattle.riichi_deeper.specs.Drawn.{parts_with, parts_without}
 use Rattle.riichi_chances.specs.Counted.{accepts, counted_rest, parts_less}
 use Rattle.riichi_chances.specs.Draws.{greatest, is_there}
-use Rattle.riichi_chances.specs.Graph.{AreBefore, AreLeft, IsGraph, IsNode, IsPlaceOf, draw_value, draws_value, discard_kinds, placed_hand, rest_by, rests_value}
-use Rattle.riichi_chances.specs.Reachable.{AtFirst, ByStep, ComesToFew, ComesToMore, HandGroup, IfTooMany, IsStep, IsWithin, MayCome, OnTooMany, RestsMayCome, by_itself, groups_of, together}
-use Rattle.riichi_chances.specs.declared.fault.ChancesFault.{ChancesFault}
-use Rattle.riichi_chances.specs.declared.fault.ChancesFault.TheVariants.{Memory, TooManyHands}
-use Rattle.riichi_chances.specs.declared.graph.Draw.{Draw}
-use Rattle.riichi_chances.specs.declared.graph.Graph.{Graph}
-use Rattle.riichi_chances.specs.declared.graph.Node.{Node}
+use Rattle.riichi_chances.specs.Graph.{AreBefore, AreLeft, HandGraph, IsGraph, IsNode, IsPlaceOf, discard_kinds, draw_value, draws_in, draws_value, placed_hand, places_in, rest_by, rests_value}
+use Rattle.riichi_chances.specs.Places.{IsAbsent}
+use Rattle.riichi_chances.specs.Reachable.{AtFirst, ByStep, ComesToFew, ComesToMore, ComesToTooMany, HandGroup, IsStep, IsWithin, MayCome, RestsMayCome, by_itself, groups_of, together}
+use Rattle.riichi_chances.specs.declared.node.Draw.{Draw}
+use Rattle.riichi_chances.specs.declared.node.Node.{Node}
 use Rattle.riichi_chances.proofs.CountingLemmas.{best_in, found_at, kinds_more}
 use Rattle.riichi_chances.proofs.GraphLemmas.{draws_same}
 use Rattle.riichi_chances.proofs.RowLemmas.{greatest_some}
@@ -46,8 +46,14 @@ all_push P items item all here k d low = ⊎_elim at_last (λ ne. earlier (omega
     at_last : k ≡ length items → P (slice_index_or (items ++ item ∷ []) k d)
     at_last e = subst P (sym (get_or_push items item d k (sym e))) here
 
-pub all_more : (group : HandGroup) (keys after : List (List ℕ)) (hand tiles : List ℕ) → after ≡ keys ++ hand ∷ [] → hand ≡ tiles → All (MayCome group) keys → MayCome group tiles → All (MayCome group) after
-all_more group keys after hand tiles after_is hand_is each come = subst (λ (ks : List (List ℕ)). All (MayCome group) ks) (sym after_is) (all_push (MayCome group) keys hand each (subst (MayCome group) (sym hand_is) come))
+-- one hand more than there may be
+pub one_too_many : (group : HandGroup) (graph : HandGraph) (tiles : List ℕ) → IsDistinct (pointwise nat_eq) graph.hands → IsAbsent tiles graph.hands → graph.most_hands ≤ length graph.hands → All (MayCome group) graph.hands → MayCome group tiles → ComesToMore graph.most_hands group
+one_too_many group graph tiles once absent full each come = record {
+  hands = graph.hands ++ tiles ∷ [];
+  more = omega (arith, length-append graph.hands (tiles ∷ []), full);
+  different = IsDistinct-push nat_list_eq_equiv graph.hands tiles once absent;
+  each = all_push (MayCome group) graph.hands tiles each come;
+}
 
 -- ---- a value that tells whether a hand is among some
 
@@ -80,7 +86,7 @@ not_absent (key ∷ keys) hand e = by_test (pointwise nat_eq hand key) refl e (n
 
 no_value : (draws : List Draw) → draws_value (λ p. 0) 0 draws ≡ 0
 no_value [] = refl
-no_value (draw ∷ draws) = times_none (draw.live) (greatest (λ p. 0) draw.rests.items) (sum_by-cons (draw_value (λ p. 0) 0) draw draws) (greatest_few (λ p. 0) 0 draw.rests.items (λ k i. omega arith)) (no_value draws)
+no_value (draw ∷ draws) = times_none (draw.live) (greatest (λ p. 0) (places_in draw.rests)) (sum_by-cons (draw_value (λ p. 0) 0) draw draws) (greatest_few (λ p. 0) 0 (places_in draw.rests) (λ k i. omega arith)) (no_value draws)
   where
     times_none : {s r : ℕ} (l g : ℕ) → s ≡ l * max g 0 + r → g ≤ 0 → r ≡ 0 → s ≡ 0
     times_none {s} {r} l g e f h = let none : max g 0 ≡ 0 = omega (arith, f) in let times : l * max g 0 ≡ l * 0 = ap (λ n. l * n) none in omega (arith, e, times, h)
@@ -95,7 +101,7 @@ none_left l zero some e = refl
 none_left (suc l) (suc g) some e = absurd (omega (arith, e))
 none_left zero (suc g) some e = absurd (omega (arith, some))
 
-some_node : (nodes : List Node) (place : ℕ) → place < length nodes → Node
+pub some_node : (nodes : List Node) (place : ℕ) → place < length nodes → Node
 some_node [] place low = absurd (omega (arith, low))
 some_node (node ∷ nodes) place low = node
 
@@ -103,9 +109,9 @@ pub accepted_listed : (parts : ShapeParts) (kind : ℕ) → kind < 34 → is_acc
 unfolding accepted_of
 accepted_listed parts kind inside accepted = in-map (λ k. (k, live_of parts.tiles parts.melds parts.seen k)) kind (filter (is_accepted parts.tiles parts.melds parts.seen) every_kind) (in-filter (is_accepted parts.tiles parts.melds parts.seen) kind every_kind (in-range 34 0 kind (omega arith) (omega (arith, inside))) accepted)
 
-module _ (root : ShapeParts) (graph : Graph) (is : IsGraph root graph) (place : ℕ) (low : place < length graph.nodes.items) where
+module _ (root : ShapeParts) (graph : HandGraph) (is : IsGraph root graph) (place : ℕ) (low : place < length graph.nodes) where
   abbrev keys : List (List ℕ)
-  keys = graph.hands.keys
+  keys = graph.hands
 
   abbrev parts : ShapeParts
   parts = placed_hand root keys place
@@ -113,8 +119,8 @@ module _ (root : ShapeParts) (graph : Graph) (is : IsGraph root graph) (place : 
   abbrev missing : ShapeParts → ℕ
   missing other = is_absent keys other.tiles
 
-  here : IsNode keys place parts (slice_index_or graph.nodes.items place (some_node graph.nodes.items place low))
-  here = is.node place (some_node graph.nodes.items place low) low
+  here : IsNode keys place parts (slice_index_or graph.nodes place (some_node graph.nodes place low))
+  here = is.node place (some_node graph.nodes place low) low
 
   module _ (kind thrown : ℕ) (step : IsStep root parts.tiles kind thrown) where
     is_far : nat_le (distance_of parts.tiles parts.melds) 1 ≡ false
@@ -126,8 +132,8 @@ module _ (root : ShapeParts) (graph : Graph) (is : IsGraph root graph) (place : 
     leads_none : rests_value missing 0 parts ≡ 0
     leads_none =
         sym (here.leads (here.ready ∙ is_far) missing 0)
-        ∙ draws_same (λ p. missing (placed_hand parts keys p)) (λ p. 0) 0 place (slice_index_or graph.nodes.items place (some_node graph.nodes.items place low)).draws.items here.before (λ p small. none_absent keys (slice_index_or keys p []) (get_or-in keys p [] (omega (arith, small, low, is.each))))
-        ∙ no_value (slice_index_or graph.nodes.items place (some_node graph.nodes.items place low)).draws.items
+        ∙ draws_same (λ p. missing (placed_hand parts keys p)) (λ p. 0) 0 place (draws_in (slice_index_or graph.nodes place (some_node graph.nodes place low)).draws) here.before (λ p small. none_absent keys (slice_index_or keys p []) (get_or-in keys p [] (omega (arith, small, low, is.each))))
+        ∙ no_value (draws_in (slice_index_or graph.nodes place (some_node graph.nodes place low)).draws)
 
     rest_none : counted_rest missing (parts_with parts kind) ≡ 0
     rest_none =
@@ -150,28 +156,28 @@ module _ (root : ShapeParts) (graph : Graph) (is : IsGraph root graph) (place : 
 
 -- ---- all that may be come to stand there
 
-module _ (group : HandGroup) (graph : Graph) (is : IsGraph group.root graph) (firsts : (hand : List ℕ) → Contains group.firsts hand → IsIn hand graph.hands.keys) where
-  all_stand : (hand : List ℕ) → MayCome group hand → IsIn hand graph.hands.keys
+module _ (group : HandGroup) (graph : HandGraph) (is : IsGraph group.root graph) (firsts : (hand : List ℕ) → Contains group.firsts hand → IsIn hand graph.hands) where
+  all_stand : (hand : List ℕ) → MayCome group hand → IsIn hand graph.hands
   all_stand hand (AtFirst _ there) = firsts hand there
   all_stand hand (ByStep before kind thrown come step) =
-      let at = Contains-in before graph.hands.keys (all_stand before come) in
-      let same : slice_index_or graph.hands.keys at.0 [] ≡ before = get_or_default graph.hands.keys at.0 [] before at.1 ∙ at.2 in
-      subst (λ (tiles : List ℕ). IsIn (without_one (with_one tiles kind) thrown) graph.hands.keys) same
+      let at = Contains-in before graph.hands (all_stand before come) in
+      let same : slice_index_or graph.hands at.0 [] ≡ before = get_or_default graph.hands at.0 [] before at.1 ∙ at.2 in
+      subst (λ (tiles : List ℕ). IsIn (without_one (with_one tiles kind) thrown) graph.hands) same
       (stands group.root graph is at.0 (omega (arith, at.1, is.each)) kind thrown (subst (λ (tiles : List ℕ). IsStep group.root tiles kind thrown) (sym same) step))
 
   pub comes_to_few : (most : ℕ) → graph.most_hands ≡ most → ComesToFew most group
   comes_to_few most most_is = record {
-    hands = graph.hands.keys;
+    hands = graph.hands;
     few = omega (arith, is.few, is.each, most_is);
-    all = λ hand come. Contains-in hand graph.hands.keys (all_stand hand come);
+    all = λ hand come. Contains-in hand graph.hands (all_stand hand come);
   }
 
 -- ---- while the hands are taken
 
-pub within_drawn : (group : HandGroup) (parts drawn : ShapeParts) (before after : Graph) → drawn.melds ≡ parts.melds → drawn.seen ≡ parts.seen → IsWithin group parts before → All (MayCome group) after.hands.keys → IsWithin group drawn after
-within_drawn group parts drawn before after melds_are seen_is inside each = record { melds = inside.melds ∙ sym melds_are; seen = inside.seen ∙ sym seen_is; each = each }
+pub within_drawn : (group : HandGroup) (own drawn : ShapeParts) (before after : HandGraph) → drawn.melds ≡ own.melds → drawn.seen ≡ own.seen → IsWithin group own before → All (MayCome group) after.hands → IsWithin group drawn after
+within_drawn group own drawn before after melds_are seen_is inside each = record { melds = inside.melds ∙ sym melds_are; seen = inside.seen ∙ sym seen_is; each = each }
 
-pub rests_come : (group : HandGroup) (parts drawn : ShapeParts) (graph : Graph) (kind place : ℕ) → IsWithin group parts graph → 1 < distance_of parts.tiles parts.melds → kind < 34 → is_accepted parts.tiles parts.melds parts.seen kind ≡ true → place ≡ kind → drawn ≡ parts_with parts place → MayCome group parts.tiles → RestsMayCome drawn group
+pub rests_come : (group : HandGroup) (parts drawn : ShapeParts) (graph : HandGraph) (kind place : ℕ) → IsWithin group parts graph → 1 < distance_of parts.tiles parts.melds → kind < 34 → is_accepted parts.tiles parts.melds parts.seen kind ≡ true → place ≡ kind → drawn ≡ parts_with parts place → MayCome group parts.tiles → RestsMayCome drawn group
 rests_come group parts drawn graph kind place inside far low accepted place_is drawn_is come thrown small best =
     subst (λ (tiles : List ℕ). MayCome group (without_one tiles thrown)) (sym (ap (λ (p : ShapeParts). p.tiles) as_drawn)) (ByStep parts.tiles kind thrown come (record {
       far = omega (arith, far, ap (distance_of parts.tiles) inside.melds);
@@ -184,19 +190,15 @@ rests_come group parts drawn graph kind place inside far low accepted place_is d
     as_drawn : drawn ≡ parts_with parts kind
     as_drawn = drawn_is ∙ ap (parts_with parts) place_is
 
--- ---- what holds of a fault, and what holds of an answer
+-- ---- what holds of an answer, and what of none
 
-pub too_many_as : {A P Q : Type 0} (result : Result A ChancesFault) → (P → Q) → OnTooMany result P → OnTooMany result Q
-too_many_as (Ok value) told it = it
-too_many_as (Err TooManyHands) told it = told it
-too_many_as (Err Memory) told it = it
+pub on_err : {A E Q : Type 0} (result : Result A E) → Q → OnErr result Q
+on_err (Ok value) it = tt
+on_err (Err fault) it = it
 
-pub too_many_then : {A P Q : Type 0} (fault : ChancesFault) (result : Result A ChancesFault) → IsErrAnd result (λ given. given ≡ fault) → (P → Q) → IfTooMany fault P → OnTooMany result Q
-too_many_then {A} {P} {Q} fault result is told many = subst (λ (r : Result A ChancesFault). OnTooMany r Q) (sym ((err_from_is_err_and result is).1 ∙ ap Err (err_from_is_err_and result is).2)) (as_many fault many)
-  where
-    as_many : (f : ChancesFault) → IfTooMany f P → IfTooMany f Q
-    as_many TooManyHands it = told it
-    as_many Memory it = it
+pub on_err_as : {A E P Q : Type 0} (result : Result A E) → (P → Q) → OnErr result P → OnErr result Q
+on_err_as (Ok value) told it = it
+on_err_as (Err fault) told it = told it
 
 pub more_as : (before after : ℕ) (group : HandGroup) → after ≡ before → ComesToMore after group → ComesToMore before group
 more_as before after group e = subst (λ n. ComesToMore n group) e
@@ -210,28 +212,28 @@ rest_comes group drawn rest kind rest_is best come = subst (MayCome group) (sym 
 
 -- ---- a hand by itself, and the hands that discards leave
 
-pub alone_few : (parts : ShapeParts) (graph : Graph) (place most : ℕ) → IsGraph parts graph → IsPlaceOf graph parts place → graph.most_hands ≡ most → ComesToFew most (by_itself parts)
+pub alone_few : (parts : ShapeParts) (graph : HandGraph) (place most : ℕ) → IsGraph parts graph → IsPlaceOf graph parts place → graph.most_hands ≡ most → ComesToFew most (by_itself parts)
 alone_few parts graph place most is there = comes_to_few (by_itself parts) graph is (λ hand first. at_first hand (in-Contains hand (parts.tiles ∷ []) first)) most
   where
-    at_first : (hand : List ℕ) → IsIn hand (parts.tiles ∷ []) → IsIn hand graph.hands.keys
-    at_first hand (inl e) = subst (λ (tiles : List ℕ). IsIn tiles graph.hands.keys) (there.is ∙ e) (get_or-in graph.hands.keys place [] (omega (arith, there.inside, is.each)))
+    at_first : (hand : List ℕ) → IsIn hand (parts.tiles ∷ []) → IsIn hand graph.hands
+    at_first hand (inl e) = subst (λ (tiles : List ℕ). IsIn tiles graph.hands) (there.is ∙ e) (get_or-in graph.hands place [] (omega (arith, there.inside, is.each)))
     at_first hand (inr none) = absurd none
 
-pub none_within : (group : HandGroup) (parts : ShapeParts) (graph : Graph) → group.root.melds ≡ parts.melds → group.root.seen ≡ parts.seen → graph.hands.keys ≡ [] → IsWithin group parts graph
+pub none_within : (group : HandGroup) (parts : ShapeParts) (graph : HandGraph) → group.root.melds ≡ parts.melds → group.root.seen ≡ parts.seen → graph.hands ≡ [] → IsWithin group parts graph
 none_within group parts graph melds_are seen_is none = record { melds = melds_are; seen = seen_is; each = subst (λ (keys : List (List ℕ)). All (MayCome group) keys) (sym none) (λ k d low. absurd (omega (arith, low))) }
 
 pub alone_comes : (parts : ShapeParts) → MayCome (by_itself parts) parts.tiles
 alone_comes parts = AtFirst parts.tiles (Contains-in parts.tiles (parts.tiles ∷ []) (inl refl))
 
-places_in : (keys : List (List ℕ)) (places : List ℕ) (hand : List ℕ) → AreBefore (length keys) places → IsIn hand (map (λ place. slice_index_or keys place []) places) → IsIn hand keys
-places_in keys places hand before there =
+placed_in : (keys : List (List ℕ)) (places : List ℕ) (hand : List ℕ) → AreBefore (length keys) places → IsIn hand (map (λ place. slice_index_or keys place []) places) → IsIn hand keys
+placed_in keys places hand before there =
     let found = in-map-inv (λ place. slice_index_or keys place []) hand places there in
     let at = Contains-in found.0 places found.1 in
     subst (λ (tiles : List ℕ). IsIn tiles keys) found.2 (get_or-in keys found.0 [] (omega (arith, before at.0 at.1, get_or_default places at.0 0 found.0 at.1, at.2)))
 
-pub together_few : (drawn : ShapeParts) (graph : Graph) (places : List ℕ) (discards : List Discard) (most : ℕ) → IsGraph drawn graph → AreBefore (length graph.nodes.items) places → discards ≡ discards_of drawn.tiles drawn.melds drawn.seen → AreLeft graph.hands.keys places drawn.tiles (discard_kinds discards) → graph.most_hands ≡ most → ComesToFew most (together drawn)
+pub together_few : (drawn : ShapeParts) (graph : HandGraph) (places : List ℕ) (discards : List Discard) (most : ℕ) → IsGraph drawn graph → AreBefore (length graph.nodes) places → discards ≡ discards_of drawn.tiles drawn.melds drawn.seen → AreLeft graph.hands places drawn.tiles (discard_kinds discards) → graph.most_hands ≡ most → ComesToFew most (together drawn)
 together_few drawn graph places discards most is before discards_is left = comes_to_few (together drawn) graph is
-    (λ hand first. places_in graph.hands.keys places hand (λ k low. omega (arith, before k low, is.each))
+    (λ hand first. placed_in graph.hands places hand (λ k low. omega (arith, before k low, is.each))
     (subst (λ (hands : List (List ℕ)). IsIn hand hands) (sym (left ∙ ap (λ (ds : List Discard). map (without_one drawn.tiles) (discard_kinds ds)) discards_is)) (in-Contains hand (together drawn).firsts first))) most
 
 pub together_come : (drawn : ShapeParts) → RestsMayCome drawn (together drawn)
@@ -287,3 +289,11 @@ module _ (drawn : ShapeParts) (discards : List Discard) (discards_is : discards 
 
     pub many_in_all : ComesToMore most (together drawn) → (group : HandGroup) × Contains (groups_of drawn) group × ComesToMore most group
     many_in_all many = (together drawn, subst (λ (groups : List HandGroup). Contains groups (together drawn)) (sym all_one) (Contains-in (together drawn) (together drawn ∷ []) (inl refl)), many)
+
+-- ---- what is asked, of thirteen tiles or fourteen
+
+pub thirteen_too_many : (parts : ShapeParts) (most : ℕ) → is_thirteen parts.tiles parts.melds ≡ true → ComesToMore most (by_itself parts) → ComesToTooMany most parts
+thirteen_too_many parts most thirteen many = (by_itself parts, subst (λ (groups : List HandGroup). Contains groups (by_itself parts)) (sym (ap (λ t. cond t (by_itself parts ∷ []) (groups_of parts)) thirteen)) (Contains-in (by_itself parts) (by_itself parts ∷ []) (inl refl)), many)
+
+pub fourteen_too_many : (parts : ShapeParts) (most : ℕ) → is_thirteen parts.tiles parts.melds ≡ false → (group : HandGroup) × Contains (groups_of parts) group × ComesToMore most group → ComesToTooMany most parts
+fourteen_too_many parts most not found = (found.0, subst (λ (groups : List HandGroup). Contains groups found.0) (sym (ap (λ t. cond t (by_itself parts ∷ []) (groups_of parts)) not)) found.1, found.2)

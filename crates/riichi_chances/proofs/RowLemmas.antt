@@ -1,11 +1,11 @@
 -- The rows of a hand by those of the hands that it leads to.
-use Rattle.std.proofs.Common.{◌≡◌, ℕ, zero, suc, ◌+◌, ◌-◌, ◌*◌, ◌<◌, ◌≤◌, Bool, true, false, max, inl, inr, List, [], ◌∷◌, ◌++◌, length, drop, get_or, refl, sym, ap, subst, ◌∙◌, ⊎_elim, arith, length-append}
+use Rattle.std.proofs.Common.{◌≡◌, ℕ, ◌+◌, ◌-◌, ◌*◌, ◌<◌, ◌≤◌, Bool, true, false, max, inl, inr, List, [], ◌∷◌, ◌≢◌, length, take, drop, slice_set, get_or, get_or-set_same, get_or-set_other, refl, sym, ap, subst, ◌∙◌, ⊎_elim, arith}
 use Rattle.std.proofs.lemmas.Bool.{and_parts, cases_eq, eq-eqb, leb-false, ltb-true}
 use Rattle.std.proofs.lemmas.Bool.Decides.{nat_tests}
-use Rattle.std.proofs.lemmas.List.{drop_all, get_or_append_left, get_or_default, get_or_push}
-use Rattle.std.proofs.lemmas.List.Sums.{sum_by-cons, sum_by-drop_more, sum_by_push}
+use Rattle.std.proofs.lemmas.List.{drop_all, get_or-take}
+use Rattle.std.proofs.lemmas.List.Sums.{sum_by-cons, sum_by-drop_more}
 use Rattle.std.specs.List.{filter}
-use Rattle.std.specs.Prelude.{nat_le, nat_lt, replicate, slice_index, slice_index_or, sum_by}
+use Rattle.std.specs.Prelude.{nat_le, nat_lt, slice_index, slice_index_or, sum_by}
 use Rattle.riichi_hand.specs.HandParts.{ShapeParts}
 use Rattle.riichi_tiles.specs.Melds.{every_kind}
 use Rattle.riichi_tiles.proofs.Members.{IsIn, in-filter, in-filter-inv, in-map-inv, in-range, in-range-inv}
@@ -20,19 +20,18 @@ use Rattle.riichi_shape.proofs.RemovalLemmas.{chosen_is}
 use Rattle.riichi_deeper.proofs.DrawnLemmas.{size_with}
 use Rattle.riichi_deeper.specs.Drawn.{parts_with}
 use Rattle.riichi_chances.specs.Aims.{Aim, HasCounts, HasRows, draws_at, lack_of, floor_of, numbers_for}
-use Rattle.riichi_chances.specs.Bests.{AreBests, BeginFew, FollowBests, FollowReady, best_value, bests_value}
+use Rattle.riichi_chances.specs.Bests.{BeginFew, FollowDraws, FollowReady, begun_by}
 use Rattle.riichi_chances.specs.Counted.{accepts, counted_rest, counted_with, parts_less}
 use Rattle.riichi_chances.specs.Draws.{all_draws, greatest, is_there}
-use Rattle.riichi_chances.specs.Graph.{AreRows, IsGraph, IsNode, draw_value, draws_value, placed_hand, no_rows, placed_number, rest_by, rests_value}
+use Rattle.riichi_chances.specs.Graph.{AreRows, HandGraph, IsGraph, IsNode, draw_value, draws_in, draws_value, no_rows, placed_hand, placed_number, places_in, rest_by, rests_value}
 use Rattle.riichi_chances.specs.Laws.{IsFourteen, IsThirteen}
-use Rattle.riichi_chances.specs.Numbers.{AreAllDraws, AreGreater, most_draws, unseen_at}
-use Rattle.riichi_chances.specs.declared.counting.Best.{Best}
-use Rattle.riichi_chances.specs.declared.graph.Draw.{Draw}
-use Rattle.riichi_chances.specs.declared.graph.Graph.{Graph}
-use Rattle.riichi_chances.specs.declared.graph.Node.{Node}
+use Rattle.riichi_chances.specs.Numbers.{AreAllDraws, most_draws, unseen_at}
+use Rattle.riichi_chances.specs.declared.node.Draw.{Draw}
+use Rattle.riichi_chances.specs.declared.node.Node.{Node}
+use Rattle.riichi_chances.specs.declared.rests.Rests.{Rests}
 use Rattle.riichi_chances.specs.declared.rows.Column.{Column}
 use Rattle.riichi_chances.specs.declared.rows.Column.TheVariants.{Ready, Win, ReadyAtMost, WinAtMost}
-use Rattle.riichi_chances.specs.declared.rows.Rows.{Rows}
+use Rattle.riichi_chances.specs.Rows.{Rows}
 use Rattle.riichi_chances.specs.declared.span.Span.{Span}
 use Rattle.riichi_chances.proofs.BoundLemmas.{accepted_few, all_few, times_few}
 use Rattle.riichi_chances.proofs.BuildingLemmas.{one_nearer}
@@ -43,105 +42,55 @@ use Rattle.riichi_chances.proofs.SumLemmas.{greatest_few}
 
 -- ---- the numbers of a ready hand
 
-module _ (column : Column) (span : Span) (live : ℕ) (unseen : span.unseen ≤ 136) (all : List ℕ) (are : AreAllDraws span all) (rows : Rows) (rows_are : numbers_for column rows ≡ all) where
-  abbrev wins : List Best
-  wins = (record { live = live; rows = rows }) ∷ []
+greatest_one : (f : ℕ → ℕ) (p : ℕ) → greatest f (p ∷ []) ≡ f p
+unfolding greatest
+greatest_one f p = omega arith
 
-  wins_value : (left own : ℕ) → left < span.turns → bests_value column left (floor_of column own) wins ≡ live * max (all_draws (unseen_at span left) left) (floor_of column own)
+module _ (column : Column) (span : Span) (live : ℕ) (unseen : span.unseen ≤ 136) (all : List ℕ) (are : AreAllDraws span all) (rows : Rows) (rows_are : numbers_for column rows ≡ all) (rests : Rests) (rests_are : places_in rests ≡ 0 ∷ []) where
+  abbrev earlier : List Rows
+  earlier = rows ∷ []
+
+  abbrev wins : List Draw
+  wins = (record { live = live; rests = rests }) ∷ []
+
+  wins_value : (left own : ℕ) → left < span.turns → begun_by column earlier wins left own ≡ live * max (all_draws (unseen_at span left) left) (floor_of column own)
   wins_value left own low =
-      sum_by-cons (best_value column left (floor_of column own)) (record { live = live; rows = rows }) [] ∙ none (live * max (slice_index (numbers_for column rows) left) (floor_of column own))
-      ∙ ap (λ n. live * max n (floor_of column own)) (ap (λ (ns : List ℕ). slice_index ns left) rows_are ∙ are left (omega (arith, low)))
+      sum_by-cons (draw_value (placed_number column earlier left) (floor_of column own)) (record { live = live; rests = rests }) [] ∙ none (live * max (greatest (placed_number column earlier left) (places_in rests)) (floor_of column own))
+      ∙ ap (λ n. live * max n (floor_of column own)) (ap (greatest (placed_number column earlier left)) rests_are ∙ greatest_one (placed_number column earlier left) 0 ∙ ap (λ (ns : List ℕ). slice_index ns left) rows_are ∙ are left (omega (arith, low)))
     where
       none : (n : ℕ) → n + 0 ≡ n
       none n = omega arith
 
-  pub ready_begin : BeginFew column span live wins
+  pub ready_begin : BeginFew column span live earlier wins
   ready_begin left own low small =
       omega (arith, wins_value left own low, times_few live live (max (all_draws (unseen_at span left) left) (floor_of column own)) (most_draws left) (omega arith) (omega (arith, all_few (unseen_at span left) left (omega (arith, unseen)), least_few column own, small)))
 
-  pub ready_follow : (row : List ℕ) → FollowBests column span live wins row → FollowReady column span live row
+  pub ready_follow : (row : List ℕ) → FollowDraws column span live earlier wins row → FollowReady column span live row
   ready_follow row follows = record {
     none = follows.none;
     more = λ left low. follows.more left low ∙ ap (λ n. (unseen_at span (left + 1) - live) * slice_index row left + n) (wins_value left (slice_index row left) low);
   }
 
--- ---- the greatest of some places
+-- ---- the greatest of some places, and the sum over some draws
 
-pub record BestSoFar (earlier : List Rows) (places : List ℕ) (turns : ℕ) (best : Rows) (done : ℕ) : Type 0 where
-  pub at : (column : Column) (left : ℕ) → left < turns → max (slice_index (numbers_for column best) left) (greatest (placed_number column earlier left) (drop done places)) ≡ greatest (placed_number column earlier left) places
+pub greatest_next : (f : ℕ → ℕ) (places : List ℕ) (at place number after least n : ℕ) → at < length places → place ≡ get_or places at place → n ≡ f place → after ≡ max number n → max number (greatest f (drop at places)) ≡ max (greatest f places) least → max after (greatest f (drop (at + 1) places)) ≡ max (greatest f places) least
+greatest_next f places at place number after least n low place_is read after_is so_far = up after number n (f place) (greatest f (drop at places)) (greatest f (drop (at + 1) places)) after_is read (greatest_drop f places at place low place_is) ∙ so_far
+  where
+    up : (a b n m g r : ℕ) → a ≡ max b n → n ≡ m → g ≡ max m r → max a r ≡ max b g
+    up a b n m g r e h i = omega arith
 
-pub zero_at : (n k : ℕ) → slice_index (replicate n 0) k ≡ 0
-zero_at zero k = refl
-zero_at (suc n) zero = refl
-zero_at (suc n) (suc k) = zero_at n k
+pub greatest_last : (f : ℕ → ℕ) (places : List ℕ) (at number least : ℕ) → length places ≤ at → max number (greatest f (drop at places)) ≡ max (greatest f places) least → number ≡ max (greatest f places) least
+greatest_last f places at number least past so_far = last number (greatest f (drop at places)) (ap (greatest f) (drop_all at places past) ∙ greatest_none f) ∙ so_far
+  where
+    last : (a r : ℕ) → r ≡ 0 → a ≡ max a r
+    last a r e = omega arith
 
-module _ (earlier : List Rows) (places : List ℕ) (turns : ℕ) where
-  pub best_init : (best : Rows) → ((column : Column) → numbers_for column best ≡ replicate 19 0) → BestSoFar earlier places turns best 0
-  best_init best none = record { at = λ column left small. none_max (slice_index (numbers_for column best) left) (greatest (placed_number column earlier left) places) (ap (λ (ns : List ℕ). slice_index ns left) (none column) ∙ zero_at 19 left) }
-    where
-      none_max : (a b : ℕ) → a ≡ 0 → max a b ≡ b
-      none_max a b e = omega arith
-
-  pub best_step : (best after other : Rows) (at place : ℕ) → at < length places → place ≡ get_or places at place → place < length earlier → ((column : Column) → AreGreater turns (numbers_for column (slice_index_or earlier place other)) (numbers_for column best) (numbers_for column after)) → BestSoFar earlier places turns best at → BestSoFar earlier places turns after (at + 1)
-  best_step best after other at place low place_is inside greater so_far = record {
-    at = λ column left small.
-        up (slice_index (numbers_for column after) left) (slice_index (numbers_for column best) left) (slice_index (numbers_for column (slice_index_or earlier place other)) left) (placed_number column earlier left place) (greatest (placed_number column earlier left) (drop at places)) (greatest (placed_number column earlier left) (drop (at + 1) places)) (greater column left small)
-        (ap (λ (rows : Rows). slice_index (numbers_for column rows) left) (get_or_default earlier place other no_rows inside)) (greatest_drop (placed_number column earlier left) places at place low place_is)
-        ∙ so_far.at column left small;
-  }
-    where
-      up : (a b o n m r : ℕ) → a ≡ max b o → o ≡ n → m ≡ max n r → max a r ≡ max b m
-      up a b o n m r e f g = omega arith
-
-  pub best_end : (best : Rows) (at : ℕ) → length places ≤ at → BestSoFar earlier places turns best at → (column : Column) (left : ℕ) → left < turns → slice_index (numbers_for column best) left ≡ greatest (placed_number column earlier left) places
-  best_end best at past so_far column left small =
-      last (slice_index (numbers_for column best) left) (greatest (placed_number column earlier left) (drop at places)) (ap (greatest (placed_number column earlier left)) (drop_all at places past) ∙ greatest_none (placed_number column earlier left)) ∙ so_far.at column left small
-    where
-      last : (a r : ℕ) → r ≡ 0 → a ≡ max a r
-      last a r e = omega arith
-
--- ---- what each draw leads to at best
-
-pub record BestsSoFar (earlier : List Rows) (draws : List Draw) (turns : ℕ) (bests : List Best) (done : ℕ) : Type 0 where
-  pub at : (column : Column) (left least : ℕ) → left < turns → bests_value column left least bests + draws_value (placed_number column earlier left) least (drop done draws) ≡ draws_value (placed_number column earlier left) least draws
-
-module _ (earlier : List Rows) (draws : List Draw) (turns : ℕ) where
-  pub bests_init : (bests : List Best) → bests ≡ [] → BestsSoFar earlier draws turns bests 0
-  bests_init bests none = record { at = λ column left least low. omega (arith, ap (bests_value column left least) none) }
-
-  pub bests_step : (bests after : List Best) (at : ℕ) → at < length draws → (draw : Draw) → draw ≡ get_or draws at draw → (rows : Rows) → ((column : Column) (left : ℕ) → left < turns → slice_index (numbers_for column rows) left ≡ greatest (placed_number column earlier left) draw.rests.items)
-      → after ≡ bests ++ (record { live = draw.live; rows = rows }) ∷ [] → BestsSoFar earlier draws turns bests at → BestsSoFar earlier draws turns after (at + 1)
-  bests_step bests after at low draw draw_is rows rows_are after_is so_far = record {
-    at = λ column left least small.
-        omega (
-          arith,
-          ap (bests_value column left least) after_is,
-          sum_by_push (best_value column left least) bests (record { live = draw.live; rows = rows }),
-          ap (λ n. draw.live * max n least) (rows_are column left small),
-          sum_by-drop_more (draw_value (placed_number column earlier left) least) draws at draw low,
-          ap (λ (d : Draw). draw_value (placed_number column earlier left) least d) draw_is,
-          so_far.at column left least small,
-        );
-  }
-
-  pub bests_end : (bests : List Best) (at : ℕ) → length draws ≤ at → BestsSoFar earlier draws turns bests at → AreBests turns earlier draws bests
-  bests_end bests at past so_far column left least small = omega (arith, so_far.at column left least small, ap (draws_value (placed_number column earlier left) least) (drop_all at draws past), nothing (placed_number column earlier left))
-    where
-      nothing : (f : ℕ → ℕ) → draws_value f least [] ≡ 0
-      nothing f = refl
-
--- ---- the sum of some numbers
-
-module _ (column : Column) (left least : ℕ) (bests : List Best) where
-  pub sum_next : (at : ℕ) (best : Best) → at < length bests → best ≡ get_or bests at best → bests_value column left least (drop at bests) ≡ best_value column left least best + bests_value column left least (drop (at + 1) bests)
-  sum_next at best low best_is = sum_by-drop_more (best_value column left least) bests at best low ∙ ap (λ (b : Best). best_value column left least b + bests_value column left least (drop (at + 1) bests)) (sym best_is)
-
-  pub sum_last : (at : ℕ) → length bests ≤ at → bests_value column left least (drop at bests) ≡ 0
-  sum_last at past = ap (bests_value column left least) (drop_all at bests past)
+pub sum_next : (f : ℕ → ℕ) (least : ℕ) (draws : List Draw) (at number : ℕ) (d : Draw) → at < length draws → number ≡ max (greatest f (places_in (get_or draws at d).rests)) least → draws_value f least (drop at draws) ≡ (get_or draws at d).live * number + draws_value f least (drop (at + 1) draws)
+sum_next f least draws at number d low number_is = sum_by-drop_more (draw_value f least) draws at d low ∙ ap (λ n. (get_or draws at d).live * n + draws_value f least (drop (at + 1) draws)) (sym number_is)
 
 -- ---- what a hand accepts
 
-sum_same : (f g : ℕ × ℕ → ℕ) (pairs : List (ℕ × ℕ)) → ((pair : ℕ × ℕ) → IsIn pair pairs → f pair ≡ g pair) → sum_by f pairs ≡ sum_by g pairs
+pub sum_same : (f g : ℕ × ℕ → ℕ) (pairs : List (ℕ × ℕ)) → ((pair : ℕ × ℕ) → IsIn pair pairs → f pair ≡ g pair) → sum_by f pairs ≡ sum_by g pairs
 sum_same f g [] same = refl
 sum_same f g (pair ∷ pairs) same = sum_by-cons f pair pairs ∙ ap (λ n. n + sum_by f pairs) (same pair (inl refl)) ∙ ap (λ n. g pair + n) (sum_same f g pairs (λ p i. same p (inr i))) ∙ sym (sum_by-cons g pair pairs)
 
@@ -156,7 +105,7 @@ sum_times n (pair ∷ pairs) = add (pair.1) (sum_by (λ (p : ℕ × ℕ). p.1) p
         both = omega arith
 
 -- a kind of the list brings the hand nearer
-accepted_in : (parts : ShapeParts) (pair : ℕ × ℕ) → IsIn pair (accepts parts) → (pair.0 < 34) × (distance_of (with_one parts.tiles pair.0) parts.melds < distance_of parts.tiles parts.melds)
+pub accepted_in : (parts : ShapeParts) (pair : ℕ × ℕ) → IsIn pair (accepts parts) → (pair.0 < 34) × (distance_of (with_one parts.tiles pair.0) parts.melds < distance_of parts.tiles parts.melds)
 unfolding accepted_of
 accepted_in parts pair there =
     let live : ℕ → ℕ = live_of parts.tiles parts.melds parts.seen in
@@ -208,16 +157,16 @@ module _ (drawn : ShapeParts) (is : IsFourteen drawn) (far : 0 < distance_of dra
 
 -- ---- thirteen tiles
 
-few_melds : (parts : ShapeParts) → IsThirteen parts → length parts.melds ≤ 4
+pub few_melds : (parts : ShapeParts) → IsThirteen parts → length parts.melds ≤ 4
 few_melds parts is = omega (arith, is.thirteen)
 
-some_lack : (parts : ShapeParts) → IsThirteen parts → 0 < distance_of parts.tiles parts.melds
+pub some_lack : (parts : ShapeParts) → IsThirteen parts → 0 < distance_of parts.tiles parts.melds
 some_lack parts is = (ready_is parts.tiles parts.melds (distance_of parts.tiles parts.melds) is.each_kind is.thirteen (distance_reached parts.tiles parts.melds (few_melds parts is) is.melded)).0
 
 pub not_won : (d : ℕ) → 0 < d → nat_le d 0 ≡ false
 not_won d some = grind (arith, nat_tests)
 
-won : (d : ℕ) → d ≡ 0 → nat_le d 0 ≡ true
+pub won : (d : ℕ) → d ≡ 0 → nat_le d 0 ≡ true
 won d e = grind (arith, nat_tests)
 
 is_ready_told : (d : ℕ) → nat_le d 1 ≡ true → d ≤ 1
@@ -260,14 +209,14 @@ module _ (span : Span) (parts : ShapeParts) (live : ℕ) (is : IsThirteen parts)
       (λ l own small. ap (λ n. n * max (all_draws (unseen_at span l) l) (floor_of column own)) live_is ∙ ready_gains (record { column = column; span = span }) parts l own none is ready) follows
 
   pub ready_has : (rows : Rows) → AreAllDraws span rows.ready → AreAllDraws span rows.ready_at_most → FollowReady Win span live rows.win → FollowReady WinAtMost span live rows.win_at_most → HasRows span parts rows
-  ready_has rows all most wins most_wins Ready left low = all left low ∙ sym (near_in Ready parts (unseen_at span left) left ready)
-  ready_has rows all most wins most_wins ReadyAtMost left low = most left low ∙ sym (near_in ReadyAtMost parts (unseen_at span left) left ready)
-  ready_has rows all most wins most_wins Win left low = wins_by Win refl rows.win wins left low
-  ready_has rows all most wins most_wins WinAtMost left low = wins_by WinAtMost refl rows.win_at_most most_wins left low
+  ready_has rows all most own_wins most_wins Ready left low = all left low ∙ sym (near_in Ready parts (unseen_at span left) left ready)
+  ready_has rows all most own_wins most_wins ReadyAtMost left low = most left low ∙ sym (near_in ReadyAtMost parts (unseen_at span left) left ready)
+  ready_has rows all most own_wins most_wins Win left low = wins_by Win refl rows.win own_wins left low
+  ready_has rows all most own_wins most_wins WinAtMost left low = wins_by WinAtMost refl rows.win_at_most most_wins left low
 
 -- ---- the rows of a place
 
-module _ (span : Span) (turns : span.turns ≤ 18) (unseen : span.unseen ≤ 136) (root : ShapeParts) (hands : List (List ℕ)) (place : ℕ) (node : Node) (is : IsNode hands place (placed_hand root hands place) node) (earlier : List Rows) (all_before : length earlier ≡ place) (are : AreRows span root hands earlier) (not_ready : node.is_ready ≡ false) where
+module _ (span : Span) (turns : span.turns ≤ 18) (unseen : span.unseen ≤ 136) (root : ShapeParts) (hands : List (List ℕ)) (place : ℕ) (node : Node) (is : IsNode hands place (placed_hand root hands place) node) (earlier : List Rows) (are : AreRows span root hands place earlier) (not_ready : node.is_ready ≡ false) where
   abbrev parts : ShapeParts
   parts = placed_hand root hands place
 
@@ -277,36 +226,35 @@ module _ (span : Span) (turns : span.turns ≤ 18) (unseen : span.unseen ≤ 136
   far_away : 1 < distance_of parts.tiles parts.melds
   far_away = omega (arith, leb-false (distance_of parts.tiles parts.melds) 1 (sym is.ready ∙ not_ready))
 
-  module _ (bests : List Best) (bests_are : AreBests span.turns earlier node.draws.items bests) where
-    gains_told : (column : Column) (left own : ℕ) → left < span.turns → bests_value column left (floor_of column own) bests ≡ gains_at (aim_of column) parts left own
-    gains_told column left own low =
-        bests_are column left (floor_of column own) low
-        ∙ draws_same (placed_number column earlier left) (λ p. draws_at (aim_of column) left (placed_hand parts hands p)) (floor_of column own) place node.draws.items is.before (λ p small. are p (omega (arith, small, all_before)) column left (omega (arith, low)))
-        ∙ is.leads not_ready (draws_at (aim_of column) left) (floor_of column own) ∙ rests_gains (aim_of column) parts left own is.whole far_away
+  gains_told : (column : Column) (left own : ℕ) → left < span.turns → begun_by column earlier (draws_in node.draws) left own ≡ gains_at (aim_of column) parts left own
+  gains_told column left own low =
+      draws_same (placed_number column earlier left) (λ p. draws_at (aim_of column) left (placed_hand parts hands p)) (floor_of column own) place (draws_in node.draws) is.before (λ p small. are p small column left (omega (arith, low)))
+      ∙ is.leads not_ready (draws_at (aim_of column) left) (floor_of column own) ∙ rests_gains (aim_of column) parts left own is.whole far_away
 
-    pub begin_few : (column : Column) → BeginFew column span node.live bests
-    begin_few column left own low small = omega (arith, gains_told column left own low, gains_bound (aim_of column) parts node.live unseen (omega (arith, is.live)) left own small)
+  pub begin_few : (column : Column) → BeginFew column span node.live earlier (draws_in node.draws)
+  begin_few column left own low small = omega (arith, gains_told column left own low, gains_bound (aim_of column) parts node.live unseen (omega (arith, is.live)) left own small)
 
-    pub followed_rows : (rows : Rows) → ((column : Column) → FollowBests column span node.live bests (numbers_for column rows)) → HasRows span parts rows
-    followed_rows rows follows column =
-        followed (aim_of column) parts (not_near (distance_of parts.tiles parts.melds) (lack_of column) far_away (lack_few column)) node.live is.live (λ left own. bests_value column left (floor_of column own) bests) (numbers_for column rows) (gains_told column) (follows column)
+  pub followed_rows : (rows : Rows) → ((column : Column) → FollowDraws column span node.live earlier (draws_in node.draws) (numbers_for column rows)) → HasRows span parts rows
+  followed_rows rows follows column =
+      followed (aim_of column) parts (not_near (distance_of parts.tiles parts.melds) (lack_of column) far_away (lack_few column)) node.live is.live (begun_by column earlier (draws_in node.draws)) (numbers_for column rows) (gains_told column) (follows column)
 
-pub node_at : (root : ShapeParts) (graph : Graph) (place : ℕ) (node : Node) → IsGraph root graph → place < length graph.nodes.items → node ≡ slice_index_or graph.nodes.items place node → IsNode graph.hands.keys place (placed_hand root graph.hands.keys place) node
-node_at root graph place node is inside node_is = subst (λ (it : Node). IsNode graph.hands.keys place (placed_hand root graph.hands.keys place) it) (sym node_is) (is.node place node inside)
+pub node_at : (root : ShapeParts) (graph : HandGraph) (place : ℕ) (node : Node) → IsGraph root graph → place < length graph.nodes → node ≡ slice_index_or graph.nodes place node → IsNode graph.hands place (placed_hand root graph.hands place) node
+node_at root graph place node is inside node_is = subst (λ (it : Node). IsNode graph.hands place (placed_hand root graph.hands place) it) (sym node_is) (is.node place node inside)
 
 pub live_few : (hands : List (List ℕ)) (place : ℕ) (parts : ShapeParts) (node : Node) → IsNode hands place parts node → node.live ≤ 136
 live_few hands place parts node is = omega (arith, is.live, accepted_few parts)
 
 -- ---- one more place
 
-pub rows_more : (span : Span) (root : ShapeParts) (hands : List (List ℕ)) (rows after : List Rows) (place : ℕ) (row : Rows) → AreRows span root hands rows → length rows ≡ place → HasRows span (placed_hand root hands place) row → after ≡ rows ++ row ∷ [] → AreRows span root hands after
-rows_more span root hands rows after place row are long has after_is = subst (AreRows span root hands) (sym after_is) each
-  where
-    each : AreRows span root hands (rows ++ row ∷ [])
-    each p low = ⊎_elim here (λ ne. other (omega (arith, low, ne, long, length-append rows (row ∷ [])))) (cases_eq p place)
-      where
-        other : p < length rows → HasRows span (placed_hand root hands p) (slice_index_or (rows ++ row ∷ []) p no_rows)
-        other less = subst (HasRows span (placed_hand root hands p)) (sym (get_or_append_left rows (row ∷ []) no_rows p less)) (are p less)
+-- the rows of the first places alone
+pub rows_first : (span : Span) (root : ShapeParts) (hands : List (List ℕ)) (count : ℕ) (rows : List Rows) → AreRows span root hands count rows → AreRows span root hands count (take count rows)
+rows_first span root hands count rows are place low = subst (HasRows span (placed_hand root hands place)) (sym (get_or-take count rows place no_rows low)) (are place low)
 
-        here : p ≡ place → HasRows span (placed_hand root hands p) (slice_index_or (rows ++ row ∷ []) p no_rows)
-        here e = subst (λ (it : Rows). HasRows span (placed_hand root hands p) it) (sym (get_or_push rows row no_rows p (long ∙ sym e))) (subst (λ (q : ℕ). HasRows span (placed_hand root hands q) row) (sym e) has)
+pub rows_more : (span : Span) (root : ShapeParts) (hands : List (List ℕ)) (rows : List Rows) (place : ℕ) (row : Rows) → AreRows span root hands place rows → place < length rows → HasRows span (placed_hand root hands place) row → AreRows span root hands (place + 1) (slice_set rows place row)
+rows_more span root hands rows place row are inside has p low = ⊎_elim here (λ ne. other ne) (cases_eq p place)
+  where
+    other : p ≢ place → HasRows span (placed_hand root hands p) (slice_index_or (slice_set rows place row) p no_rows)
+    other ne = subst (HasRows span (placed_hand root hands p)) (sym (get_or-set_other rows place p row no_rows ne)) (are p (omega (arith, low, ne)))
+
+    here : p ≡ place → HasRows span (placed_hand root hands p) (slice_index_or (slice_set rows place row) p no_rows)
+    here e = subst (λ (q : ℕ). HasRows span (placed_hand root hands q) (slice_index_or (slice_set rows place row) q no_rows)) (sym e) (subst (HasRows span (placed_hand root hands place)) (sym (get_or-set_same rows place row no_rows inside)) has)

@@ -69,3 +69,9 @@ module _ (row : List ℕ) (left v : ℕ) (long : left + 1 < length row) (F : ℕ
 -- the next number of a hand that isn't there
 pub row_few : (unseen live c g left : ℕ) → unseen ≤ 136 → live ≤ 136 → c ≤ most_draws left → g ≤ live * most_draws left → (unseen - live) * c + g ≤ 136 * most_draws left
 row_few unseen live c g left few some small more = step_few (unseen - live) live c g (most_draws left) (omega arith) small more
+
+pub first_draws : (span : Span) (all : List ℕ) → get_or all 0 0 ≡ 1 → (k : ℕ) → k ≤ 0 → get_or all k 0 ≡ all_draws (unseen_at span k) k
+first_draws span all e k low = subst (λ n. get_or all n 0 ≡ all_draws (unseen_at span n) n) (none k low) (e ∙ sym (all_none (unseen_at span 0)))
+  where
+    none : (n : ℕ) → n ≤ 0 → 0 ≡ n
+    none n small = omega (arith, small)

@@ -5,7 +5,7 @@ use Rattle.riichi_chances.specs.AtMost.{counted_most}
 use Rattle.riichi_chances.specs.Counted.{counted_draws}
 use Rattle.riichi_chances.specs.declared.rows.Column.{Column}
 use Rattle.riichi_chances.specs.declared.rows.Column.TheVariants.{Ready, Win, ReadyAtMost, WinAtMost}
-use Rattle.riichi_chances.specs.declared.rows.Rows.{Rows}
+use Rattle.riichi_chances.specs.Rows.{Rows}
 use Rattle.riichi_chances.specs.declared.span.Span.{Span}
 use Rattle.riichi_chances.specs.Numbers.{unseen_at}
 

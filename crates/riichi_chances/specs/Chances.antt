@@ -11,7 +11,7 @@ use Rattle.riichi_chances.specs.declared.chances.Chances.{Chances}
 use Rattle.riichi_chances.specs.declared.discards.DiscardChances.{DiscardChances}
 use Rattle.riichi_chances.specs.declared.goal.Goal.{Goal}
 use Rattle.riichi_chances.specs.declared.goal.Goal.TheVariants.{Ready, Win}
-use Rattle.riichi_chances.specs.declared.rows.Rows.{Rows}
+use Rattle.riichi_chances.specs.Rows.{Rows}
 
 -- the draws that bring a hand to a goal
 abbrev pub reached_of : Goal → Chances → List ℕ
@@ -67,6 +67,14 @@ abbrev pub IsNoPlayAboveAfter : ShapeParts → ℕ → List DiscardChances → T
 IsNoPlayAboveAfter parts turns each = (place : ℕ) (one : DiscardChances) → place < length each → IsNoPlayAbove (parts_without parts (slice_index_or each place one).kind) turns (slice_index_or each place one).chances
 
 -- ---- one number of turns after the other
+
+-- a place for each number of turns
+pub record AreLong (chances : Chances) : Type 0 where
+  pub ready : length chances.ready ≡ 19
+  pub win : length chances.win ≡ 19
+  pub ready_at_most : length chances.ready_at_most ≡ 19
+  pub win_at_most : length chances.win_at_most ≡ 19
+  pub all : length chances.all ≡ 19
 
 -- those of one number of turns are told, and the others stay
 pub record IsTold (turns : ℕ) (rows : Rows) (number : ℕ) (before after : Chances) : Type 0 where

@@ -21,9 +21,13 @@ parts_less drawn kind = record { tiles = without_one drawn.tiles kind; melds = d
 unfoldable pub counted_rest : (ShapeParts → ℕ) → ShapeParts → ℕ
 counted_rest value drawn = greatest (λ kind. value (parts_less drawn kind)) (filter (is_discard drawn.tiles drawn.melds) every_kind)
 
+-- once a tile has come: a reward where the fourteen tiles are near enough, else the greatest number that a best discard leaves
+abbrev pub counted_behind : ℕ → ℕ → (ShapeParts → ℕ) → ShapeParts → ℕ
+counted_behind goal reward value drawn = if is_there goal drawn then reward else counted_rest value drawn
+
 -- the number of a hand of fourteen tiles before its discard
 unfoldable pub counted_with : ℕ → ℕ → ℕ → (ShapeParts → ℕ) → ShapeParts → ℕ
-counted_with goal unseen left value drawn = if is_there goal drawn then all_draws unseen left else counted_rest value drawn
+counted_with goal unseen left value drawn = counted_behind goal (all_draws unseen left) value drawn
 
 -- of the draws that begin with an accepted kind
 abbrev pub counted_by : ℕ → ℕ → ℕ → (ShapeParts → ℕ) → ShapeParts → ℕ × ℕ → ℕ

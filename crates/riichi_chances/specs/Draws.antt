@@ -35,12 +35,16 @@ greatest value (kind ∷ kinds) = max (value kind) (greatest value kinds)
 abbrev pub best_rest : (ShapeParts → ℕ) → ShapeParts → ℕ
 best_rest value drawn = greatest (λ kind. value (parts_without drawn kind)) (filter (is_discard drawn.tiles drawn.melds) every_kind)
 
--- of the draws that begin with a tile of the kind, how many lead there, by the value of thirteen tiles with the turns that are left
-abbrev pub draws_behind : ℕ → ℕ → (ShapeParts → ℕ) → ShapeParts → ℕ → ℕ
-draws_behind goal left value parts kind =
-    if is_there goal (parts_with parts kind) then all_draws (unseen_of parts - 1) left
+-- once a tile of the kind is drawn: a reward where the hand is near enough then, else the value of the thirteen tiles that are left
+abbrev pub value_behind : ℕ → ℕ → (ShapeParts → ℕ) → ShapeParts → ℕ → ℕ
+value_behind goal reward value parts kind =
+    if is_there goal (parts_with parts kind) then reward
     else if is_accepted parts.tiles parts.melds parts.seen kind then best_rest value (parts_with parts kind)
     else value (parts_passed parts kind)
+
+-- of the draws that begin with a tile of the kind, how many lead there, by the value of thirteen tiles with the turns that are left
+abbrev pub draws_behind : ℕ → ℕ → (ShapeParts → ℕ) → ShapeParts → ℕ → ℕ
+draws_behind goal left value parts kind = value_behind goal (all_draws (unseen_of parts - 1) left) value parts kind
 
 -- of all ordered draws how many bring the hand near enough
 unfoldable pub draws : ℕ → ShapeParts → ℕ → ℕ

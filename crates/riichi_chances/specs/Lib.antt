@@ -6,8 +6,11 @@ pub mod Counted
 pub mod Draws
 pub mod Fractions
 pub mod Graph
+pub mod Halves
 pub mod Laws
 pub mod Numbers
 pub mod Odds
+pub mod Places
 pub mod Plays
 pub mod Reachable
+pub mod Rows

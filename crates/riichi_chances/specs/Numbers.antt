@@ -1,5 +1,5 @@
 -- Rows of numbers of draws, one for each number of turns that may be left, and how great they can be.
-use Rattle.std.specs.Prelude.{◌≡◌, ℕ, zero, suc, ◌-◌, ◌*◌, ◌<◌, ◌≤◌, max, List, slice_index}
+use Rattle.std.specs.Prelude.{◌≡◌, ℕ, zero, suc, ◌-◌, ◌*◌, ◌≤◌, List, slice_index}
 use Rattle.riichi_chances.specs.Draws.{all_draws}
 use Rattle.riichi_chances.specs.declared.span.Span.{Span}
 
@@ -15,7 +15,3 @@ unseen_at span left = span.unseen - (span.turns - left)
 -- all draws of the turns that are left
 abbrev pub AreAllDraws : Span → List ℕ → Type 0
 AreAllDraws span numbers = (left : ℕ) → left ≤ span.turns → slice_index numbers left ≡ all_draws (unseen_at span left) left
-
--- of each two numbers the greater
-abbrev pub AreGreater : ℕ → List ℕ → List ℕ → List ℕ → Type 0
-AreGreater turns other before after = (left : ℕ) → left < turns → slice_index after left ≡ max (slice_index before left) (slice_index other left)

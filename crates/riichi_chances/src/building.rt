@@ -1,5 +1,5 @@
 //! The hands that a hand may come to, by what each accepts.
-ghost use Rattle.std.specs.Prelude.{◌≡◌, ◌<◌, ◌++◌, [], ◌∷◌, IfOk, OnOk, length};
+ghost use Rattle.std.specs.Prelude.{◌≡◌, ◌<◌, IfOk, OnOk, length};
 ghost use Rattle.riichi_shape.specs.Accepted.{accepted_of};
 ghost use Rattle.riichi_shape.specs.Discards.{discards_of};
 ghost use Rattle.riichi_shape.specs.EveryWinning.{distance_of};
@@ -7,23 +7,24 @@ ghost use Rattle.riichi_chances.specs.Graph as spec;
 ghost use Rattle.riichi_chances.specs.Laws.{IsFourteen, IsThirteen};
 ghost use Rattle.riichi_chances.specs.Reachable.{HandMayCome, RefusesMore, RestsMayCome, StaysWithin};
 
-use crate::fault::ChancesFault;
+use crate::fault::TooManyHands;
 use crate::goal::is_ready;
-use crate::graph::{Draw, Graph, Node};
+use crate::graph::Graph;
+use crate::node::{Draw, Draws, Node};
+use crate::rests::Rests;
 use crate::tiles::best_discarded;
 use riichi_deeper::with_tile;
 use riichi_hand::ShapeRecord;
 use riichi_shape::{Accepts, DiscardList, LiveList, RowSource, shape_with};
 use riichi_tiles::Kind;
-use std::alloc::AllocError;
 
 /// The place of thirteen tiles, which are taken with all that they lead to where they weren't there before.
 #[cycle(building)]
-pub(crate) fn place_of<R: RowSource>(
+pub fn place_of<R: RowSource>(
     source: &mut R,
-    graph: &mut Graph,
+    graph: &mut Graph<'_>,
     asked: &ShapeRecord,
-) -> Result<usize, ChancesFault>
+) -> Result<u16, TooManyHands>
     requires whole { IsThirteen asked.now }
     requires graph { spec.IsGraph asked.now graph.old }
     ensures grows { OnOk result (spec.Grows asked.now graph.old graph.new) }
@@ -32,7 +33,7 @@ pub(crate) fn place_of<R: RowSource>(
     ensures many { RefusesMore HandMayCome asked.now graph.old result }
     ensures stays { source.new ≡ source.old }
 {
-    if let Some(place) = graph.known(asked) {
+    if let Some(place) = graph.find(asked) {
         return Ok(place);
     }
     let node = node_of(source, graph, asked)?;
@@ -43,18 +44,19 @@ pub(crate) fn place_of<R: RowSource>(
 #[cycle(building)]
 fn node_of<R: RowSource>(
     source: &mut R,
-    graph: &mut Graph,
+    graph: &mut Graph<'_>,
     asked: &ShapeRecord,
-) -> Result<Node, ChancesFault>
+) -> Result<Node, TooManyHands>
     requires whole { IsThirteen asked.now }
     requires graph { spec.IsGraph asked.now graph.old }
     ensures grows { OnOk result (spec.Grows asked.now graph.old graph.new) }
     ensures node { IfOk result
-        (spec.IsNode graph.new.hands.keys (length graph.new.nodes.items) asked.now) }
+        (spec.IsNode graph.new.hands (length graph.new.nodes) asked.now) }
     ensures within { StaysWithin HandMayCome asked.now graph.old graph.new result }
     ensures many { RefusesMore HandMayCome asked.now graph.old result }
     ensures stays { source.new ≡ source.old }
 {
+    let _shape = asked.tiles();
     let answer = shape_with(source, asked);
     match &answer.accepts {
         Accepts::Thirteen(accepted) => {
@@ -63,7 +65,7 @@ fn node_of<R: RowSource>(
                 return Ok(Node {
                     is_ready: true,
                     live,
-                    draws: Vec::new(graph.alloc),
+                    draws: Draws::new(),
                 });
             }
             let draws = draws_of(source, graph, asked, accepted)?;
@@ -81,10 +83,10 @@ fn node_of<R: RowSource>(
 #[cycle(building)]
 fn draws_of<R: RowSource>(
     source: &mut R,
-    graph: &mut Graph,
+    graph: &mut Graph<'_>,
     asked: &ShapeRecord,
     accepted: &LiveList,
-) -> Result<Vec<Draw>, ChancesFault>
+) -> Result<Draws, TooManyHands>
     requires whole { IsThirteen asked.now }
     requires accepted { accepted.now
         ≡ accepted_of asked.now.tiles asked.now.melds asked.now.seen }
@@ -92,21 +94,21 @@ fn draws_of<R: RowSource>(
     requires graph { spec.IsGraph asked.now graph.old }
     ensures grows { OnOk result (spec.Grows asked.now graph.old graph.new) }
     ensures before { IfOk result
-        (λ draws. spec.LeadBefore (length graph.new.nodes.items) draws.items) }
+        (λ draws. spec.LeadBefore (length graph.new.nodes) (spec.draws_in draws)) }
     ensures leads { IfOk result
-        (λ draws. spec.LeadTo graph.new.hands.keys draws.items asked.now) }
+        (λ draws. spec.LeadTo graph.new.hands (spec.draws_in draws) asked.now) }
     ensures within { StaysWithin HandMayCome asked.now graph.old graph.new result }
     ensures many { RefusesMore HandMayCome asked.now graph.old result }
     ensures stays { source.new ≡ source.old }
 {
-    let mut draws = Vec::new(graph.alloc);
+    let mut draws = Draws::new();
     let copies = accepted.copies();
     for number in 0..34u8 {
         let live = copies[number as usize];
         if live > 0 {
             let drawn = with_tile(asked, Kind::at(number));
             let rests = rests_of(source, graph, &drawn)?;
-            keep_draw(&mut draws, Draw { live, rests })?;
+            draws.push(Draw { live, rests });
         }
     }
     Ok(draws)
@@ -116,17 +118,17 @@ fn draws_of<R: RowSource>(
 #[cycle(building)]
 fn rests_of<R: RowSource>(
     source: &mut R,
-    graph: &mut Graph,
+    graph: &mut Graph<'_>,
     drawn: &ShapeRecord,
-) -> Result<Vec<usize>, ChancesFault>
+) -> Result<Rests, TooManyHands>
     requires whole { IsFourteen drawn.now }
     requires far { 0 < distance_of drawn.now.tiles drawn.now.melds }
     requires graph { spec.IsGraph drawn.now graph.old }
     ensures grows { OnOk result (spec.Grows drawn.now graph.old graph.new) }
     ensures before { IfOk result
-        (λ rests. spec.AreBefore (length graph.new.nodes.items) rests.items) }
+        (λ rests. spec.AreBefore (length graph.new.nodes) (spec.places_in rests)) }
     ensures rests { IfOk result
-        (λ rests. spec.AreRests graph.new.hands.keys rests.items drawn.now) }
+        (λ rests. spec.AreRests graph.new.hands (spec.places_in rests) drawn.now) }
     ensures within { StaysWithin RestsMayCome drawn.now graph.old graph.new result }
     ensures many { RefusesMore RestsMayCome drawn.now graph.old result }
     ensures stays { source.new ≡ source.old }
@@ -140,12 +142,12 @@ fn rests_of<R: RowSource>(
 
 /// The places of what these discards leave, one for each of them.
 #[cycle(building)]
-pub(crate) fn places_of<R: RowSource>(
+pub fn places_of<R: RowSource>(
     source: &mut R,
-    graph: &mut Graph,
+    graph: &mut Graph<'_>,
     drawn: &ShapeRecord,
     discards: &DiscardList,
-) -> Result<Vec<usize>, ChancesFault>
+) -> Result<Rests, TooManyHands>
     requires whole { IsFourteen drawn.now }
     requires discards { discards.now
         ≡ discards_of drawn.now.tiles drawn.now.melds drawn.now.seen }
@@ -153,37 +155,23 @@ pub(crate) fn places_of<R: RowSource>(
     requires graph { spec.IsGraph drawn.now graph.old }
     ensures grows { OnOk result (spec.Grows drawn.now graph.old graph.new) }
     ensures before { IfOk result
-        (λ rests. spec.AreBefore (length graph.new.nodes.items) rests.items) }
+        (λ rests. spec.AreBefore (length graph.new.nodes) (spec.places_in rests)) }
     ensures left { IfOk result (λ rests. spec.AreLeft
-        graph.new.hands.keys rests.items drawn.now.tiles (spec.discard_kinds discards.now)) }
+        graph.new.hands (spec.places_in rests) drawn.now.tiles (spec.discard_kinds discards.now)) }
     ensures within { StaysWithin RestsMayCome drawn.now graph.old graph.new result }
     ensures many { RefusesMore RestsMayCome drawn.now graph.old result }
     ensures stays { source.new ≡ source.old }
 {
-    let mut places = Vec::new(graph.alloc);
+    let mut places = Rests::new();
     for at in 0..discards.len() {
         match discards.short_at(at) {
             Some(discard) => {
                 let rest = best_discarded(drawn, discard.kind);
                 let place = place_of(source, graph, &rest)?;
-                keep_place(&mut places, place)?;
+                places.push(place);
             }
             None => unreachable!(),
         }
     }
     Ok(places)
-}
-
-fn keep_draw(draws: &mut Vec<Draw>, draw: Draw) -> Result<(), AllocError>
-    ensures { OnOk result (draws.new.items ≡ draws.old.items ++ draw ∷ []) }
-{
-    draws.push(draw)?;
-    Ok(())
-}
-
-fn keep_place(places: &mut Vec<usize>, place: usize) -> Result<(), AllocError>
-    ensures { OnOk result (places.new.items ≡ places.old.items ++ place ∷ []) }
-{
-    places.push(place)?;
-    Ok(())
 }

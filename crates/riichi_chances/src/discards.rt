@@ -1,5 +1,5 @@
 //! The chances after each best discard.
-ghost use Rattle.std.specs.Prelude.{◌≡◌, ℕ, ◌<◌, ◌≤◌, ◌++◌, [], ◌∷◌, All, Contains, IfOk, OnOk, length, map, true};
+ghost use Rattle.std.specs.Prelude.{◌≡◌, ℕ, ◌<◌, ◌≤◌, ◌++◌, [], ◌∷◌, All, Contains, IfOk, OnErr, OnOk, length, map, true};
 ghost use Rattle.riichi_hand.specs.Hand.{size};
 ghost use Rattle.riichi_shape.specs.Discards.{discards_of};
 ghost use Rattle.riichi_shape.specs.EveryWinning.{distance_of};
@@ -7,20 +7,22 @@ ghost use Rattle.riichi_deeper.specs.Drawn.{parts_without};
 ghost use Rattle.riichi_chances.specs.Chances as spec;
 ghost use Rattle.riichi_chances.specs.Draws.{is_there, unseen_of};
 ghost use Rattle.riichi_chances.specs.Odds.{ArePartsOfAll, best_odds, each_odds_at};
-ghost use Rattle.riichi_chances.specs.Reachable.{ComesToFew, ComesToMore, HandGroup, OnTooMany, by_itself, groups_of, together};
+ghost use Rattle.riichi_chances.specs.Reachable.{HaveNoRoom, HaveRoom, SomeHaveNoRoom, by_itself, groups_of, together};
 
 use crate::building::places_of;
 use crate::chances::{Chances, by_turns, chances_of};
-use crate::fault::ChancesFault;
+use crate::fault::TooManyHands;
 use crate::goal::is_won;
 use crate::graph::Graph;
+use crate::hand_place::HandPlace;
 use crate::odds::DiscardOdds;
+use crate::rows::Rows;
 use crate::unseen::unseen_tiles;
+use arrayvec::ArrayVec;
 use riichi_deeper::without_tile;
 use riichi_hand::ShapeRecord;
 use riichi_shape::{Accepts, DiscardList, RowSource, shape_with};
 use riichi_tiles::Kind;
-use std::alloc::{AllocError, Global};
 
 /// The chances after a discard.
 #[derive(Clone, Copy, Debug, PartialEq, Eq, Drop)]
@@ -29,14 +31,23 @@ pub struct DiscardChances {
     pub chances: Chances,
 }
 
+impl Default for DiscardChances {
+    fn default() -> DiscardChances {
+        DiscardChances {
+            kind: Kind::at(0),
+            chances: Chances::none(),
+        }
+    }
+}
+
 /// The chances after each best discard of fourteen tiles, which is then seen, in the order of the discards of the hand's shape.
 pub fn discard_chances<R: RowSource>(
-    alloc: Global,
+    places: &mut [HandPlace],
+    rows: &mut [Rows],
     source: &mut R,
     asked: &ShapeRecord,
     turns: u8,
-    most_hands: usize,
-) -> Result<Vec<DiscardChances>, ChancesFault>
+) -> Result<ArrayVec<DiscardChances, 14>, TooManyHands>
     requires fourteen { size asked.now.tiles asked.now.melds ≡ 14 }
     requires turns { turns ≤ 18 }
     ensures each { IfOk result (λ each. map (λ one. one.kind) each.items
@@ -45,18 +56,17 @@ pub fn discard_chances<R: RowSource>(
     ensures chances { IfOk result (λ each. spec.AreAfter asked.now turns each.items) }
     ensures at_most { IfOk result (λ each. spec.AreAfterAtMost asked.now turns each.items) }
     ensures plays { IfOk result (λ each. spec.IsNoPlayAboveAfter asked.now turns each.items) }
-    ensures few { OnOk result (All (ComesToFew most_hands) (groups_of asked.now)) }
-    ensures many { OnTooMany result
-        ((group : HandGroup) × Contains (groups_of asked.now) group × ComesToMore most_hands group) }
+    ensures few { OnOk result (All (HaveRoom places.old rows.old) (groups_of asked.now)) }
+    ensures many { OnErr result (SomeHaveNoRoom places.old rows.old asked.now) }
     ensures stays { source.new ≡ source.old }
 {
     let answer = shape_with(source, asked);
     match &answer.accepts {
         Accepts::Fourteen(discards) => {
             if is_won(answer.shanten) {
-                each_alone(alloc, source, asked, discards, turns, most_hands)
+                each_alone(places, rows, source, asked, discards, turns)
             } else {
-                all_together(alloc, source, asked, discards, turns, most_hands)
+                all_together(places, rows, source, asked, discards, turns)
             }
         }
         Accepts::Thirteen(_) => unreachable!(),
@@ -65,13 +75,13 @@ pub fn discard_chances<R: RowSource>(
 
 /// Of a won hand: each discard leaves a ready hand, which may accept what was thrown, so it is asked by itself.
 fn each_alone<R: RowSource>(
-    alloc: Global,
+    places: &mut [HandPlace],
+    rows: &mut [Rows],
     source: &mut R,
     asked: &ShapeRecord,
     discards: &DiscardList,
     turns: u8,
-    most_hands: usize,
-) -> Result<Vec<DiscardChances>, ChancesFault>
+) -> Result<ArrayVec<DiscardChances, 14>, TooManyHands>
     requires fourteen { size asked.now.tiles asked.now.melds ≡ 14 }
     requires discards { discards.now
         ≡ discards_of asked.now.tiles asked.now.melds asked.now.seen }
@@ -84,20 +94,20 @@ fn each_alone<R: RowSource>(
     ensures plays { IfOk result (λ each. spec.IsNoPlayAboveAfter asked.now turns each.items) }
     ensures few { OnOk result ((kind : ℕ)
         → Contains (map (λ discard. discard.kind) discards.now) kind
-        → ComesToFew most_hands (by_itself (parts_without asked.now kind))) }
-    ensures many { OnTooMany result
+        → HaveRoom places.old rows.old (by_itself (parts_without asked.now kind))) }
+    ensures many { OnErr result
         ((kind : ℕ) × Contains (map (λ discard. discard.kind) discards.now) kind
-        × ComesToMore most_hands (by_itself (parts_without asked.now kind))) }
+        × HaveNoRoom places.old rows.old (by_itself (parts_without asked.now kind))) }
     ensures stays { source.new ≡ source.old }
 {
-    let mut each = Vec::new(alloc);
+    let mut each = ArrayVec::new();
     for at in 0..discards.len() {
         match discards.short_at(at) {
             Some(discard) => {
                 let kind = discard.kind;
                 let rest = without_tile(asked, kind);
-                let chances = chances_of(alloc, source, &rest, turns, most_hands)?;
-                keep(&mut each, DiscardChances { kind, chances })?;
+                let chances = chances_of(places, rows, source, &rest, turns)?;
+                each.push(DiscardChances { kind, chances });
             }
             None => unreachable!(),
         }
@@ -107,13 +117,13 @@ fn each_alone<R: RowSource>(
 
 /// Of any other hand: what was thrown is accepted no more, so one graph has the hands of all discards.
 fn all_together<R: RowSource>(
-    alloc: Global,
+    places: &mut [HandPlace],
+    rows: &mut [Rows],
     source: &mut R,
     asked: &ShapeRecord,
     discards: &DiscardList,
     turns: u8,
-    most_hands: usize,
-) -> Result<Vec<DiscardChances>, ChancesFault>
+) -> Result<ArrayVec<DiscardChances, 14>, TooManyHands>
     requires fourteen { size asked.now.tiles asked.now.melds ≡ 14 }
     requires far { 0 < distance_of asked.now.tiles asked.now.melds }
     requires discards { discards.now
@@ -124,89 +134,73 @@ fn all_together<R: RowSource>(
     ensures chances { IfOk result (λ each. spec.AreAfter asked.now turns each.items) }
     ensures at_most { IfOk result (λ each. spec.AreAfterAtMost asked.now turns each.items) }
     ensures plays { IfOk result (λ each. spec.IsNoPlayAboveAfter asked.now turns each.items) }
-    ensures few { OnOk result (ComesToFew most_hands (together asked.now)) }
-    ensures many { OnTooMany result (ComesToMore most_hands (together asked.now)) }
+    ensures few { OnOk result (HaveRoom places.old rows.old (together asked.now)) }
+    ensures many { OnErr result (HaveNoRoom places.old rows.old (together asked.now)) }
     ensures stays { source.new ≡ source.old }
 {
     let unseen = unseen_tiles(asked);
-    let mut graph = Graph::new(alloc, most_hands);
-    let places = places_of(source, &mut graph, asked, discards)?;
-    let chances = by_turns(&graph, places.as_slice(), unseen, turns)?;
-    let each = with_kinds(alloc, discards, chances.as_slice())?;
-    Ok(each)
+    let mut graph = Graph::new(places, rows.len());
+    let left = places_of(source, &mut graph, asked, discards)?;
+    let mut all = [Chances::none(); 14];
+    let chances = &mut all[..discards.len()];
+    by_turns(&graph, rows, left.as_slice(), unseen, turns, chances);
+    Ok(with_kinds(discards, chances))
 }
 
 /// The chances, each with the kind of its discard.
-fn with_kinds(
-    alloc: Global,
-    discards: &DiscardList,
-    chances: &[Chances],
-) -> Result<Vec<DiscardChances>, AllocError>
+fn with_kinds(discards: &DiscardList, chances: &[Chances]) -> ArrayVec<DiscardChances, 14>
     requires { length chances.now ≡ length discards.now }
-    ensures kinds { IfOk result (λ each. map (λ one. one.kind) each.items
-        ≡ map (λ discard. discard.kind) discards.now) }
-    ensures chances { IfOk result (λ each. map (λ one. one.chances) each.items ≡ chances.now) }
+    ensures kinds { map (λ one. one.kind) result.items ≡ map (λ discard. discard.kind) discards.now }
+    ensures chances { map (λ one. one.chances) result.items ≡ chances.now }
 {
-    let mut each = Vec::new(alloc);
+    let mut each = ArrayVec::new();
     for at in 0..discards.len() {
         match discards.short_at(at) {
             Some(discard) => {
                 let kind = discard.kind;
                 let chances = chances[at];
-                keep(&mut each, DiscardChances { kind, chances })?;
+                each.push(DiscardChances { kind, chances });
             }
             None => unreachable!(),
         }
     }
-    Ok(each)
-}
-
-fn keep(each: &mut Vec<DiscardChances>, one: DiscardChances) -> Result<(), AllocError>
-    ensures { OnOk result (each.new.items ≡ each.old.items ++ one ∷ []) }
-{
-    each.push(one)?;
-    Ok(())
+    each
 }
 
 /// Those of one number of turns after each best discard, in the same order.
 pub fn discard_odds<R: RowSource>(
-    alloc: Global,
+    places: &mut [HandPlace],
+    rows: &mut [Rows],
     source: &mut R,
     asked: &ShapeRecord,
     turns: u8,
-    most_hands: usize,
-) -> Result<Vec<DiscardOdds>, ChancesFault>
+) -> Result<ArrayVec<DiscardOdds, 14>, TooManyHands>
     requires fourteen { size asked.now.tiles asked.now.melds ≡ 14 }
     requires turns { turns ≤ 18 }
     ensures value { IfOk result (λ each. each.items ≡ best_odds asked.now turns) }
     ensures parts { turns ≤ unseen_of asked.now
         → IfOk result (λ each. All (λ one. ArePartsOfAll one.odds) each.items) }
-    ensures few { OnOk result (All (ComesToFew most_hands) (groups_of asked.now)) }
-    ensures many { OnTooMany result
-        ((group : HandGroup) × Contains (groups_of asked.now) group × ComesToMore most_hands group) }
+    ensures few { OnOk result (All (HaveRoom places.old rows.old) (groups_of asked.now)) }
+    ensures many { OnErr result (SomeHaveNoRoom places.old rows.old asked.now) }
     ensures stays { source.new ≡ source.old }
 {
     let _unseen = unseen_tiles(asked);
-    let each = discard_chances(alloc, source, asked, turns, most_hands)?;
-    let odds = each_at(alloc, each.as_slice(), turns)?;
-    Ok(odds)
+    let each = discard_chances(places, rows, source, asked, turns)?;
+    Ok(each_at(each.as_slice(), turns))
 }
 
 /// Of each those of one number of turns.
-fn each_at(
-    alloc: Global,
-    each: &[DiscardChances],
-    turns: u8,
-) -> Result<Vec<DiscardOdds>, AllocError>
-    requires { turns ≤ 18 }
-    ensures { IfOk result (λ odds. odds.items ≡ each_odds_at each.now turns) }
+fn each_at(each: &[DiscardChances], turns: u8) -> ArrayVec<DiscardOdds, 14>
+    requires turns { turns ≤ 18 }
+    requires few { length each.now ≤ 14 }
+    ensures { result.items ≡ each_odds_at each.now turns }
 {
-    let mut odds = Vec::new(alloc);
+    let mut odds = ArrayVec::new();
     for one in each {
         odds.push(DiscardOdds {
             kind: one.kind,
             odds: one.chances.at(turns),
-        })?;
+        });
     }
-    Ok(odds)
+    odds
 }

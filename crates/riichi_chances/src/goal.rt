@@ -18,7 +18,7 @@ pub(crate) fn is_ready(shanten: i8) -> bool
 }
 
 /// Whether a hand of this shanten is won.
-pub(crate) fn is_won(shanten: i8) -> bool
+pub fn is_won(shanten: i8) -> bool
     ensures { (lack : ℕ) → shanten ≡ pos lack -ℤ pos 1 → result ≡ nat_le lack 0 }
 {
     shanten < 0

@@ -14,8 +14,9 @@
 //! rows of a source. Then, for each number of turns, `counting` makes the numbers of each hand of those before it. All best discards
 //! of fourteen tiles share one such list.
 //!
-//! A call takes memory for its hands, some three kilobytes each, and refuses what may come to more of them than it is told
-//! ([`ChancesFault`]). It never tells another number, and it refuses nothing that comes to no more.
+//! A call takes no memory. Its hands and their numbers stand in places that the caller lends ([`HandPlace`], [`Rows`]; in memory a
+//! [`Room`] of them), some two kilobytes for each hand; what may come to more hands is refused ([`TooManyHands`]). It never tells
+//! another number, and it refuses nothing that comes to no more. There are 65,535 places at most.
 //!
 //! [`Chances::at`] are those of one number of turns, [`Odds`], and [`discard_odds`] those after each best discard. A [`Fraction`] of such numbers is told in lowest terms, or in ten thousandths.
 //!
@@ -32,18 +33,31 @@ mod fault;
 mod fraction;
 mod goal;
 mod graph;
+mod halves;
+mod hand_place;
 pub mod laws;
+mod node;
 mod odds;
+mod rests;
+mod room;
 mod rows;
 mod span;
 mod tiles;
 mod unseen;
 
+pub use building::{place_of, places_of};
 pub use chances::{Chances, chances_of};
 pub use discards::{DiscardChances, discard_chances, discard_odds};
-pub use fault::ChancesFault;
+pub use fault::TooManyHands;
 pub use fraction::Fraction;
-pub use goal::Goal;
+pub use goal::{Goal, is_won};
+pub use graph::Graph;
+pub use halves::Halves;
+pub use hand_place::HandPlace;
+pub use node::{Draw, Draws, Node};
 pub use odds::{DiscardOdds, Odds};
-pub use span::MOST_TURNS;
+pub use rests::Rests;
+pub use room::Room;
+pub use rows::Rows;
+pub use span::{ByTurns, MOST_TURNS, Span};
 pub use unseen::unseen_tiles;

@@ -23,6 +23,15 @@ pub struct DiscardOdds {
     pub odds: Odds,
 }
 
+impl Default for DiscardOdds {
+    fn default() -> DiscardOdds {
+        DiscardOdds {
+            kind: Kind::at(0),
+            odds: Chances::none().at(0),
+        }
+    }
+}
+
 impl Odds {
     /// Whether this play wins in more draws than any play that the others bound: both are of as many draws.
     pub fn wins_surely_over(&self, other: &Odds) -> bool

@@ -1,10 +1,11 @@
 //! Numbers of draws for both goals, with their upper ends.
-ghost use Rattle.std.specs.Prelude.{ℕ, ◌≡◌, ◌≤◌, slice_index};
+ghost use Rattle.std.specs.Prelude.{◌≡◌};
 ghost use Rattle.riichi_chances.specs.Aims as spec;
 ghost use Rattle.riichi_chances.specs.declared.rows.Column.{Column};
-ghost use Rattle.riichi_chances.specs.Numbers.{AreGreater};
 
-use crate::span::{ByTurns, keep_greater};
+use crate::halves::Halves;
+use crate::span::ByTurns;
+use std::marker::Model;
 
 /// For a goal the draws that are reached, or the upper end.
 #[derive(Clone, Copy)]
@@ -28,18 +29,44 @@ impl Column {
     }
 }
 
-/// At each place the numbers of draws where so many turns are left.
+/// At each place the numbers of draws where so many turns are left. Places for such rows are lent.
 #[derive(Clone, Copy)]
-pub(crate) struct Rows {
-    pub ready: ByTurns,
-    pub win: ByTurns,
-    pub ready_at_most: ByTurns,
-    pub win_at_most: ByTurns,
+#[repr(C)]
+pub struct Rows {
+    pub(crate) ready: ByTurns,
+    pub(crate) win: ByTurns,
+    pub(crate) ready_at_most: ByTurns,
+    pub(crate) win_at_most: ByTurns,
+}
+
+impl Model for Rows {
+    ghost use Rattle.riichi_chances.specs.Rows.{Rows};
+
+    ghost Value = { Rows };
+
+    ghost view = { λ rows. record {
+      ready = rows.ready;
+      win = rows.win;
+      ready_at_most = rows.ready_at_most;
+      win_at_most = rows.win_at_most;
+    } };
+
+    ghost inverse = { λ rows. record {
+      ready = rows.ready;
+      win = rows.win;
+      ready_at_most = rows.ready_at_most;
+      win_at_most = rows.win_at_most;
+    } };
 }
 
 impl Rows {
+    /// Rows of a hand of which nothing is told yet.
+    pub fn free() -> Rows {
+        Rows::all([Halves::of(0); 19])
+    }
+
     /// The same numbers in each column.
-    pub fn all(numbers: ByTurns) -> Rows
+    pub(crate) fn all(numbers: ByTurns) -> Rows
         ensures { (column : Column) → spec.numbers_for column result ≡ numbers }
     {
         Rows {
@@ -50,7 +77,7 @@ impl Rows {
         }
     }
 
-    pub fn at(&self, column: Column) -> &ByTurns
+    pub(crate) fn at(&self, column: Column) -> &ByTurns
         ensures { result.now ≡ spec.numbers_for column self.now }
     {
         match column {
@@ -59,17 +86,5 @@ impl Rows {
             Column::ReadyAtMost => &self.ready_at_most,
             Column::WinAtMost => &self.win_at_most,
         }
-    }
-
-    /// Keeps of each two numbers the greater.
-    pub fn keep_greater(&mut self, other: &Rows, turns: u8)
-        requires { turns ≤ 18 }
-        ensures { (column : Column) → AreGreater turns (spec.numbers_for column other.now)
-            (spec.numbers_for column self.old) (spec.numbers_for column self.new) }
-    {
-        keep_greater(&mut self.ready, &other.ready, turns);
-        keep_greater(&mut self.win, &other.win, turns);
-        keep_greater(&mut self.ready_at_most, &other.ready_at_most, turns);
-        keep_greater(&mut self.win_at_most, &other.win_at_most, turns);
     }
 }

@@ -1,8 +1,10 @@
 //! Which discards are surely better than which.
 use crate::facts::same;
 use crate::hands::{hand, kind, size};
+use crate::room::room_for;
 use crate::worked::refused;
-use riichi_chances::{ChancesFault, DiscardOdds, Odds, discard_odds, unseen_tiles};
+use arrayvec::ArrayVec;
+use riichi_chances::{DiscardOdds, Odds, discard_odds, unseen_tiles};
 use riichi_hand::ShapeRecord;
 use riichi_rows::FreshRows;
 use riichi_tiles::Kind;
@@ -22,23 +24,29 @@ fn odds_after(each: &[DiscardOdds], discard: Kind) -> Option<Odds> {
     None
 }
 
-/// Asks once more where memory is refused.
-fn each_in_two(alloc: Global, asked: &ShapeRecord, turns: u8) -> Result<Vec<DiscardOdds>, Fail> {
+fn each_of(
+    alloc: Global,
+    asked: &ShapeRecord,
+    turns: u8,
+) -> Result<ArrayVec<DiscardOdds, 14>, Fail> {
     if size(asked) != 14 || turns > 18 {
         return Err(Fail::from("not fourteen tiles, or too many turns"));
     }
-    match discard_odds(alloc, &mut FreshRows, asked, turns, MOST_HANDS) {
-        Err(ChancesFault::Memory) => {
-            discard_odds(alloc, &mut FreshRows, asked, turns, MOST_HANDS).map_err(refused)
-        }
-        answer => answer.map_err(refused),
-    }
+    let mut room = room_for(alloc, MOST_HANDS)?;
+    discard_odds(
+        room.places.as_mut_slice(),
+        room.rows.as_mut_slice(),
+        &mut FreshRows,
+        asked,
+        turns,
+    )
+    .map_err(refused)
 }
 
 /// By 18 turns 2m wins in 0.4984 of all draws and 6s in 0.4745 at most, so 2m is surely better; by 6 turns it is not.
 fn check(rt: &impl Abort, alloc: Global, turns: u8, is_sure: bool) -> Result<(), Fail> {
     let asked = hand("23678m23p1236789s", &[], "")?;
-    let each = each_in_two(alloc, &asked, turns)?;
+    let each = each_of(alloc, &asked, turns)?;
     let narrow = odds_after(each.as_slice(), kind("2m")?).ok_or("no such discard")?;
     let wide = odds_after(each.as_slice(), kind("6s")?).ok_or("no such discard")?;
     same(rt, narrow.wins_surely_over(&wide), is_sure);

@@ -1,6 +1,7 @@
 //! Chances as text.
 use crate::facts::same;
 use crate::hands::{hand, size};
+use crate::room::room_for;
 use arrayvec::ArrayString;
 use riichi_chances::{Fraction, Odds, chances_of};
 use riichi_chances_text::{
@@ -33,9 +34,15 @@ fn odds_of_a_ready_hand(rt: HostRuntime) -> Result<(), Fail> {
     if size(&asked) != 13 {
         return Err(Fail::from("not thirteen tiles"));
     }
-    if let Ok(chances) = chances_of(rt.alloc(), &mut FreshRows, &asked, 2, 1) {
-        same(&rt, chances.at(2), BY_TWO);
-    }
+    let mut room = room_for(rt.alloc(), 1)?;
+    let chances = chances_of(
+        room.places.as_mut_slice(),
+        room.rows.as_mut_slice(),
+        &mut FreshRows,
+        &asked,
+        2,
+    );
+    same(&rt, chances.map(|chances| chances.at(2)), Ok(BY_TWO));
     Ok(())
 }
 

@@ -1,11 +1,10 @@
 //! Worked hands.
-ghost use Rattle.std.specs.Prelude.{◌≡◌, true};
-ghost use Rattle.riichi_hand.specs.Hand.{is_thirteen, size};
-
 use crate::facts::same;
 use crate::hands::{hand, kind, size};
+use crate::room::room_for;
+use arrayvec::ArrayVec;
 use riichi_chances::{
-    Chances, ChancesFault, DiscardChances, Fraction, Goal, MOST_TURNS, chances_of, discard_chances,
+    Chances, DiscardChances, Fraction, Goal, MOST_TURNS, TooManyHands, chances_of, discard_chances,
     laws,
 };
 use riichi_hand::ShapeRecord;
@@ -36,62 +35,48 @@ fn after(each: &[DiscardChances], discard: Kind) -> Option<Chances> {
     None
 }
 
-/// The chances of thirteen tiles. Where one request for memory is refused, the second call has it.
-fn one_in_two(
-    alloc: Global,
-    asked: &ShapeRecord,
-    most_hands: usize,
-) -> Result<Chances, ChancesFault>
-    requires { is_thirteen asked.now.tiles asked.now.melds ≡ true }
-{
-    match chances_of(alloc, &mut FreshRows, asked, MOST_TURNS, most_hands) {
-        Err(ChancesFault::Memory) => {
-            chances_of(alloc, &mut FreshRows, asked, MOST_TURNS, most_hands)
-        }
-        answer => answer,
+/// The chances of thirteen tiles, where so many hands have room.
+fn one_of(alloc: Global, asked: &ShapeRecord, most_hands: usize) -> Result<Chances, Fail> {
+    if size(asked) != 13 {
+        return Err(Fail::from("not thirteen tiles"));
     }
+    let mut room = room_for(alloc, most_hands)?;
+    chances_of(
+        room.places.as_mut_slice(),
+        room.rows.as_mut_slice(),
+        &mut FreshRows,
+        asked,
+        MOST_TURNS,
+    )
+    .map_err(refused)
 }
 
 /// The same after each best discard of fourteen tiles.
-fn each_of(
-    alloc: Global,
-    asked: &ShapeRecord,
-    most_hands: usize,
-) -> Result<Vec<DiscardChances>, ChancesFault>
-    requires { size asked.now.tiles asked.now.melds ≡ 14 }
-{
-    match discard_chances(alloc, &mut FreshRows, asked, MOST_TURNS, most_hands) {
-        Err(ChancesFault::Memory) => {
-            discard_chances(alloc, &mut FreshRows, asked, MOST_TURNS, most_hands)
-        }
-        answer => answer,
+fn each_of(alloc: Global, asked: &ShapeRecord) -> Result<ArrayVec<DiscardChances, 14>, Fail> {
+    if size(asked) != 14 {
+        return Err(Fail::from("not fourteen tiles"));
     }
+    let mut room = room_for(alloc, MOST_HANDS)?;
+    discard_chances(
+        room.places.as_mut_slice(),
+        room.rows.as_mut_slice(),
+        &mut FreshRows,
+        asked,
+        MOST_TURNS,
+    )
+    .map_err(refused)
 }
 
-fn each_in_two(alloc: Global, asked: &ShapeRecord) -> Result<Vec<DiscardChances>, Fail> {
-    if size(asked) == 14 {
-        each_of(alloc, asked, MOST_HANDS).map_err(refused)
-    } else {
-        Err(Fail::from("not fourteen tiles"))
-    }
-}
-
-pub(crate) fn refused(fault: ChancesFault) -> Fail {
-    match fault {
-        ChancesFault::Memory => Fail::from("no memory twice"),
-        ChancesFault::TooManyHands => Fail::from("too many hands"),
-    }
+pub(crate) fn refused(_fault: TooManyHands) -> Fail {
+    Fail::from("too many hands")
 }
 
 fn answer_to(alloc: Global, row: &Row) -> Result<Chances, Fail> {
     let asked = hand(row.hand, &[], "")?;
     if row.discard.is_empty() {
-        if size(&asked) == 13 {
-            return one_in_two(alloc, &asked, MOST_HANDS).map_err(refused);
-        }
-        return Err(Fail::from("not thirteen tiles"));
+        return one_of(alloc, &asked, MOST_HANDS);
     }
-    let each = each_in_two(alloc, &asked)?;
+    let each = each_of(alloc, &asked)?;
     let chances = after(each.as_slice(), kind(row.discard)?).ok_or("no such discard")?;
     Ok(chances)
 }
@@ -312,7 +297,7 @@ fn check_discards(
     at_most: &[AfterDiscard],
 ) -> Result<(), Fail> {
     let asked = hand(tiles, &[], "")?;
-    let each = each_in_two(alloc, &asked)?;
+    let each = each_of(alloc, &asked)?;
     for row in rows {
         let chances = after(each.as_slice(), kind(row.0)?).ok_or("no such discard")?;
         check_number(rt, chances.reached(Goal::Win), &chances.all, row)?;
@@ -368,10 +353,7 @@ const EIGHT_UNSEEN: &str =
 #[test]
 fn what_throwing_gains(rt: HostRuntime) -> Result<(), Fail> {
     let asked = hand("3568m", &["pon:888m", "pon:999m", "pon:111z"], EIGHT_UNSEEN)?;
-    if size(&asked) != 13 {
-        return Err(Fail::from("not thirteen tiles"));
-    }
-    let told = one_in_two(rt.alloc(), &asked, 20).map_err(refused)?;
+    let told = one_of(rt.alloc(), &asked, 20)?;
     same(&rt, told.all[3], 336);
     same(&rt, told.win[3], 48);
     same(&rt, told.win_at_most[3] >= 51, true);
@@ -386,33 +368,41 @@ const WAITS_UNSEEN: &str =
 #[test]
 fn no_more_than_all_draws(rt: HostRuntime) -> Result<(), Fail> {
     let asked = hand("123456789m1134p", &[], WAITS_UNSEEN)?;
-    if size(&asked) != 13 {
-        return Err(Fail::from("not thirteen tiles"));
-    }
-    let told = one_in_two(rt.alloc(), &asked, 1).map_err(refused)?;
+    let told = one_of(rt.alloc(), &asked, 1)?;
     same(&rt, told.all[3], 336);
     same(&rt, told.win[3], 336);
     same(&rt, told.win_at_most[3], 336);
     Ok(())
 }
 
-/// A hand that may come to more hands than are looked at is refused by that name.
+/// A hand that may come to more hands than there are places is refused by that name.
 #[test]
 fn few_hands(rt: HostRuntime) -> Result<(), Fail> {
     let asked = hand("123m4467p23557s1z", &[], "")?;
-    if size(&asked) != 13 {
-        return Err(Fail::from("not thirteen tiles"));
-    }
-    for most_hands in [0, 1, 20] {
-        let told = one_in_two(rt.alloc(), &asked, most_hands);
-        same(&rt, told, Err(ChancesFault::TooManyHands));
-    }
     let drawn = hand("44577m23p3356678s", &[], "")?;
-    if size(&drawn) != 14 {
-        return Err(Fail::from("not fourteen tiles"));
+    if size(&asked) != 13 || size(&drawn) != 14 {
+        return Err(Fail::from("not so many tiles"));
     }
-    let told = each_of(rt.alloc(), &drawn, 20).map(|_| 0);
-    same(&rt, told, Err(ChancesFault::TooManyHands));
+    for most in [0, 1, 20] {
+        let mut room = room_for(rt.alloc(), most)?;
+        let places = room.places.as_mut_slice();
+        let told = chances_of(
+            places,
+            room.rows.as_mut_slice(),
+            &mut FreshRows,
+            &asked,
+            MOST_TURNS,
+        );
+        same(&rt, told, Err(TooManyHands));
+        let told = discard_chances(
+            places,
+            room.rows.as_mut_slice(),
+            &mut FreshRows,
+            &drawn,
+            MOST_TURNS,
+        );
+        same(&rt, told.map(|_| 0), Err(TooManyHands));
+    }
     Ok(())
 }
 

@@ -11,9 +11,12 @@ last_digit number = 48 + number % 10
 abbrev pub four_digits : ℕ → List ℕ
 four_digits number = last_digit (number / 1000) ∷ last_digit (number / 100) ∷ last_digit (number / 10) ∷ last_digit number ∷ []
 
+abbrev pub behind_point : ℕ → List ℕ
+behind_point number = codes "." ++ four_digits number
+
 -- so many ten thousandths
 abbrev pub ten_thousandths_text : ℕ → List ℕ
-ten_thousandths_text number = decimal (number / 10000) ++ codes "." ++ four_digits number
+ten_thousandths_text number = decimal (number / 10000) ++ behind_point number
 
 -- to the nearest of these
 abbrev pub decimal_text : Fraction → List ℕ

@@ -1,2 +1,3 @@
 pub mod FractionTexts
 pub mod OddsTexts
+pub mod PointTexts

@@ -13,8 +13,14 @@ pub(crate) const MOST_U128: usize = "340282366920938463463374607431768211455".le
 /// The bytes of the longest decimal.
 pub const MOST_DECIMAL: usize = "65535.0000".len();
 
+/// The bytes of a point and four digits.
+pub(crate) const MOST_DIGITS: usize = ".0000".len();
+
+/// The bytes of the longest part and its whole.
+pub(crate) const MOST_DIVIDED: usize = MOST_U128 + "/".len() + MOST_U128;
+
 /// The bytes of the longest fraction with its decimal.
-pub const MOST_FRACTION: usize = MOST_U128 + "/".len() + MOST_U128 + " ".len() + MOST_DECIMAL;
+pub const MOST_FRACTION: usize = MOST_DIVIDED + " ".len() + MOST_DECIMAL;
 
 /// Writes a part of a whole in lowest terms, and to four digits.
 pub fn push_fraction<const ROOM: usize>(text: &mut ArrayString<ROOM>, given: Fraction)
@@ -24,12 +30,20 @@ pub fn push_fraction<const ROOM: usize>(text: &mut ArrayString<ROOM>, given: Fra
     ensures bytes { text.new.bytes ≡ text.old.bytes ++ spec.fraction_text given }
     ensures len { array_string_len text.new ≤ array_string_len text.old + MOST_FRACTION }
 {
-    let lowest = given.reduced();
-    push_number(text, lowest.part);
-    text.push_str("/");
-    push_number(text, lowest.whole);
+    push_divided(text, given.reduced());
     text.push_str(" ");
     push_decimal(text, given);
+}
+
+/// Writes a part and its whole.
+pub(crate) fn push_divided<const ROOM: usize>(text: &mut ArrayString<ROOM>, given: Fraction)
+    requires { array_string_len text.old + MOST_DIVIDED ≤ ROOM }
+    ensures bytes { text.new.bytes ≡ text.old.bytes ++ spec.divided_text given }
+    ensures len { array_string_len text.new ≤ array_string_len text.old + MOST_DIVIDED }
+{
+    push_number(text, given.part);
+    text.push_str("/");
+    push_number(text, given.whole);
 }
 
 /// Writes a part of a whole to four digits.
@@ -50,6 +64,15 @@ fn push_ten_thousandths<const ROOM: usize>(text: &mut ArrayString<ROOM>, number:
     ensures len { array_string_len text.new ≤ array_string_len text.old + MOST_DECIMAL }
 {
     push_number(text, number / 10_000);
+    push_four_digits(text, number);
+}
+
+/// Writes the last four digits of a number behind a point.
+pub(crate) fn push_four_digits<const ROOM: usize>(text: &mut ArrayString<ROOM>, number: u16)
+    requires { array_string_len text.old + MOST_DIGITS ≤ ROOM }
+    ensures bytes { text.new.bytes ≡ text.old.bytes ++ spec.behind_point number }
+    ensures len { array_string_len text.new ≡ array_string_len text.old + MOST_DIGITS }
+{
     text.push_str(".");
     push_digit(text, number / 1_000);
     push_digit(text, number / 100);

@@ -6,6 +6,7 @@ pub mod Rows
 pub mod WinRows
 pub mod JsonReasons
 pub mod RulesRead
+pub mod Studies
 pub mod GameTables
 pub mod Games
 pub mod GameLines

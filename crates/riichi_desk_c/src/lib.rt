@@ -21,6 +21,7 @@ mod placing;
 mod reasons;
 mod rows;
 mod rules;
+mod study;
 mod wins;
 
 pub use arrays::{riichi_discards, riichi_shantens, riichi_shapes, riichi_waits_of};
@@ -43,6 +44,7 @@ use riichi_hand::{fault_text, read_line};
 pub use rows::riichi_answer_rows;
 pub use rules::riichi_rules;
 use rules::rules_numbered;
+pub use study::riichi_study;
 pub use wins::riichi_wins;
 
 /// Answers one line, without its line feed and a carriage return before that, under the rules of this number: the bytes that the answer takes, 0

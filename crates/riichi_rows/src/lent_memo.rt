@@ -1,19 +1,23 @@
 //! Rows that were made before, in places that the caller lends.
 ghost use Rattle.std.specs.Prelude.{ℕ, ◌≡◌, ◌<◌, ◌≤◌, length, slice_index};
+ghost use Rattle.riichi_cuts.specs.SuitCut.{IsCut};
 
 use crate::kept_row::{KeptRow, row_at};
 use crate::kept_upper::KeptUpper;
 use crate::row::SuitRow;
 use crate::row_key::RowKey;
 use crate::row_source::RowSource;
+use riichi_cuts::{CutSource, KeptCut, LentCuts, SuitCut};
+use riichi_split::SuitTiles;
 use std::marker::Model;
 
-/// Places for rows, and others for the upper ranks of which they are made. An array that is lent is made where it stands,
+/// Places for rows, others for the upper ranks of which they are made, and those for cuts. An array that is lent is made where it stands,
 /// while a value that holds it is moved.
 #[derive(Drop)]
 pub struct LentMemo<'a> {
     rows: &'a mut [KeptRow],
     uppers: &'a mut [KeptUpper],
+    cuts: LentCuts<'a>,
 }
 
 impl<'a> Model for LentMemo<'a> {
@@ -27,12 +31,23 @@ impl<'a> Model for LentMemo<'a> {
 }
 
 impl<'a> LentMemo<'a> {
-    /// Their numbers should be powers of two: else some places are never used.
-    pub fn new(rows: &'a mut [KeptRow], uppers: &'a mut [KeptUpper]) -> LentMemo<'a>
+    /// Their numbers should be powers of two: else some places are never used. Without places for cuts each is made anew.
+    pub fn new(
+        rows: &'a mut [KeptRow],
+        uppers: &'a mut [KeptUpper],
+        cuts: &'a mut [KeptCut],
+    ) -> LentMemo<'a>
         requires rows { 0 < length rows.old }
         requires uppers { 0 < length uppers.old }
     {
-        LentMemo { rows, uppers }
+        let cuts = LentCuts::new(cuts);
+        LentMemo { rows, uppers, cuts }
+    }
+}
+
+impl<'a> CutSource for LentMemo<'a> {
+    fn cut(&mut self, tiles: &SuitTiles) -> SuitCut {
+        self.cuts.cut(tiles)
     }
 }
 

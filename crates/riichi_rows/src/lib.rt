@@ -13,7 +13,8 @@
 //!
 //! The other sources keep what they make, and make a row anew only where they keep none of that key. Each
 //! row that one keeps is by its type the row of its key, so it answers as `FreshRows` does, whatever it was
-//! asked before. None fails.
+//! asked before. None fails. Each is a `CutSource` too, so that it answers waits as it answers shapes: it keeps
+//! cuts beside rows, but for a `LentMemo` that is lent no places for them.
 //!
 //! - `RowMemo` has a place for each of so many rows, in pairs, and finds the pair of a row by its counts and
 //!   caps. Where one of the two is that very row, it is the answer; else the row is made, and the older of

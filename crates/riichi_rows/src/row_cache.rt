@@ -2,6 +2,7 @@
 ghost use Rattle.std.specs.Prelude.{ℕ, ◌≡◌, ◌<◌, ◌≤◌, IfOk, slice_index};
 ghost use Rattle.riichi_rows.specs.Marks.{IsMarkedRow};
 ghost use Rattle.riichi_rows.specs.Kept.{AreRows};
+ghost use Rattle.riichi_cuts.specs.SuitCut.{IsCut};
 
 use crate::memory::Memory;
 use crate::ranks::suit_row;
@@ -9,15 +10,18 @@ use crate::row::SuitRow;
 use crate::row_key::RowKey;
 use crate::row_source::RowSource;
 use lru::LruCache;
+use riichi_cuts::{CutMemo, CutSource, SuitCut};
+use riichi_split::SuitTiles;
 use std::alloc::Global;
 use std::marker::Model;
 use std::num::NonZeroUsize;
 
 /// Rows by what they are made of, at most as many as its capacity; the one that was asked for
-/// least recently goes first. It is seen as its capacity.
+/// least recently goes first. Beside them are places for as many cuts. It is seen as its capacity.
 #[derive(Drop)]
 pub struct RowCache {
     rows: LruCache<RowKey, SuitRow>,
+    cuts: CutMemo,
 }
 
 impl Model for RowCache {
@@ -41,9 +45,9 @@ impl RowCache {
         let Some(places) = NonZeroUsize::new(capacity) else {
             unreachable!()
         };
-        match LruCache::new(alloc, places) {
-            Ok(rows) => Ok(RowCache { rows }),
-            Err(_) => Err(Memory),
+        match (LruCache::new(alloc, places), CutMemo::new(alloc, capacity)) {
+            (Ok(rows), Ok(cuts)) => Ok(RowCache { rows, cuts }),
+            _ => Err(Memory),
         }
     }
 }
@@ -64,6 +68,12 @@ fn kept_row(rows: &mut LruCache<RowKey, SuitRow>, key: RowKey) -> SuitRow
     match rows.get_or_insert(key, make) {
         Ok(row) => *row,
         Err(_) => suit_row(key.counts, key.caps, key.runs),
+    }
+}
+
+impl CutSource for RowCache {
+    fn cut(&mut self, tiles: &SuitTiles) -> SuitCut {
+        self.cuts.cut(tiles)
     }
 }
 

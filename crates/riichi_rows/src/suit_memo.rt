@@ -1,6 +1,7 @@
 //! Rows that are kept wherever there is room.
 ghost use Rattle.std.specs.Prelude.{ℕ, ◌≡◌, ◌<◌, ◌≤◌, slice_index};
 ghost use Rattle.riichi_rows.specs.Marks.{IsMarkedRow};
+ghost use Rattle.riichi_cuts.specs.SuitCut.{IsCut};
 
 use crate::kept_row::{KeptRow, row_at};
 use crate::kept_upper::KeptUpper;
@@ -8,6 +9,8 @@ use crate::row::SuitRow;
 use crate::row_key::RowKey;
 use crate::row_memo::RowMemo;
 use crate::row_source::RowSource;
+use riichi_cuts::{CutSource, SuitCut, WaitMemo};
+use riichi_split::SuitTiles;
 use std::alloc::Global;
 use std::marker::Model;
 
@@ -19,7 +22,7 @@ const FEW_PLACES: usize = 1_024;
 
 const FEW_UPPERS: usize = 16;
 
-/// Rows that are kept in memory, or where no memory can be had in the value itself. So a program always has a source.
+/// Rows and cuts that are kept in memory, or where no memory can be had in the value itself. So a program always has a source.
 #[derive(Drop)]
 pub enum SuitMemo {
     InMemory(RowMemo),
@@ -31,6 +34,7 @@ pub enum SuitMemo {
 pub struct FewPlaces {
     rows: [KeptRow; FEW_PLACES],
     uppers: [KeptUpper; FEW_UPPERS],
+    cuts: WaitMemo,
 }
 
 impl Model for FewPlaces {
@@ -53,7 +57,17 @@ impl SuitMemo {
         SuitMemo::InValue(FewPlaces {
             rows: [KeptRow::of_nothing(); FEW_PLACES],
             uppers: [KeptUpper::of_nothing(); FEW_UPPERS],
+            cuts: WaitMemo::in_value(),
         })
+    }
+}
+
+impl CutSource for SuitMemo {
+    fn cut(&mut self, tiles: &SuitTiles) -> SuitCut {
+        match self {
+            SuitMemo::InMemory(memo) => memo.cut(tiles),
+            SuitMemo::InValue(few) => few.cuts.cut(tiles),
+        }
     }
 }
 

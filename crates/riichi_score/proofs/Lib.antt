@@ -4,3 +4,4 @@ pub mod LimitLemmas
 pub mod DoraSums
 pub mod Greatest
 pub mod Uniqueness
+pub mod FuSums

@@ -6,7 +6,7 @@ ghost use Rattle.riichi_blocks.specs.HandBlocks.{blocks_of};
 ghost use Rattle.riichi_yaku.specs.Runs.{is_pinfu};
 ghost use Rattle.riichi_score.specs.Fu as spec;
 
-use riichi_blocks::{Blocks, HandBlock, blocks_of, pair_fu, wait_fu};
+use riichi_blocks::{Blocks, HandBlock, blocks_of, pair_fu, pairs_fu, wait_fu};
 use riichi_hand::{Switch, WinRecord, is_ron};
 use riichi_split::Reading;
 use riichi_tiles::{Block, Kind};
@@ -104,11 +104,7 @@ fn blocks_fu(blocks: &Blocks, win: &WinRecord) -> u8
     ensures value { result ≡ sum_by (spec.block_fu win.now) blocks.now }
     ensures most { result ≤ 160 }
 {
-    let mut sum = 0;
-    for block in blocks.as_slice() {
-        sum += block_fu(win, block);
-    }
-    sum
+    (blocks.sets_fu() + pairs_fu(blocks.as_slice(), win)) as u8
 }
 
 /// What a block earns.

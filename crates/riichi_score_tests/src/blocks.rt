@@ -56,6 +56,8 @@ fn open_hand(rt: &impl Abort, reading: &Reading, win: &WinRecord) {
     same(rt, blocks.triplets(), 3);
     same(rt, blocks.concealed_triplets(), 1);
     same(rt, blocks.kongs(), 1);
+    same(rt, blocks.sets_fu().into(), 4 + 32 + 4);
+    same(rt, pairs_fu(blocks.as_slice(), win).into(), 0);
     holds(
         rt,
         is_standard(reading) && !is_seven_pairs(reading) && !is_thirteen_orphans(reading),
@@ -95,11 +97,10 @@ fn looks_at_an_open_hand(rt: HostRuntime) -> Result<(), Fail> {
 /// Whether all blocks have an orphan, all a terminal, some an honour, and whether the wait is two-sided.
 fn kinds_in_blocks(reading: &Reading, win: &WinRecord) -> [bool; 4] {
     let blocks = blocks_of(reading, win);
-    let blocks = blocks.as_slice();
     [
-        all_have_orphans(blocks),
-        all_have_terminals(blocks),
-        some_has_honour(blocks),
+        blocks.all_have_orphans(),
+        blocks.all_have_terminals(),
+        blocks.some_has_honour(),
         has_two_sided_wait(reading, win.winning()),
     ]
 }
@@ -258,6 +259,6 @@ fn counts_blocks_as_they_come(rt: HostRuntime) -> Result<(), Fail> {
     blocks.push(run);
     same(&rt, blocks.runs_equal_to(&run), 2);
     same(&rt, blocks.runs(), 2);
-    holds(&rt, !blocks.has_triplet(9));
+    holds(&rt, blocks.has_equal_runs() && !blocks.has_triplet(9));
     Ok(())
 }

@@ -2,10 +2,12 @@
 ghost use Rattle.std.specs.Prelude.{◌≤◌};
 
 use crate::facts::{holds, same};
+use riichi_cuts::{CutSource, KeptCut};
 use riichi_rows::{
     FreshRows, KeptRow, KeptUpper, LentMemo, Memory, RowCache, RowMemo, RowSource, SuitMemo,
     SuitRow,
 };
+use riichi_split::SuitTiles;
 use std::alloc::Global;
 use std::process::Abort;
 use std::test::Fail;
@@ -37,6 +39,15 @@ fn check<R: RowSource>(
     Ok(())
 }
 
+/// Cuts of suits that differ in runs alone, each of them twice.
+fn check_cuts<R: RowSource>(rt: &impl Abort, source: &mut R) {
+    let held = [1, 1, 1, 1, 0, 0, 0, 0, 0];
+    for has_runs in [true, false, true, false] {
+        let tiles = SuitTiles { held, has_runs };
+        same(rt, source.cut(&tiles), FreshRows.cut(&tiles));
+    }
+}
+
 /// Keys that differ in counts, caps or runs alone, each of them twice.
 fn check_keys_that_are_alike<R: RowSource>(rt: &impl Abort, source: &mut R) -> Result<(), Fail> {
     let counts = [1, 1, 1, 0, 0, 0, 2, 0, 0];
@@ -48,6 +59,7 @@ fn check_keys_that_are_alike<R: RowSource>(rt: &impl Abort, source: &mut R) -> R
         check(rt, source, [0; 9], 2, false)?;
     }
     same(rt, source.row(&[0; 9], &[4; 9], true).get(2, true), Some(8));
+    check_cuts(rt, source);
     Ok(())
 }
 
@@ -83,8 +95,9 @@ fn rows_of_a_memo_in_few_lent_places(rt: HostRuntime) -> Result<(), Fail> {
     let mut one = [KeptRow::of_nothing(); 1];
     let mut six = [KeptRow::of_nothing(); 6];
     let mut uppers = [KeptUpper::of_nothing(); 3];
-    check_keys_that_are_alike(&rt, &mut LentMemo::new(&mut one, &mut uppers))?;
-    check_keys_that_are_alike(&rt, &mut LentMemo::new(&mut six, &mut uppers))
+    let mut cuts = [KeptCut::of_nothing(); 1];
+    check_keys_that_are_alike(&rt, &mut LentMemo::new(&mut one, &mut uppers, &mut []))?;
+    check_keys_that_are_alike(&rt, &mut LentMemo::new(&mut six, &mut uppers, &mut cuts))
 }
 
 /// Rows over the same upper ranks, by few places for these and by one.
@@ -92,10 +105,10 @@ fn rows_of_a_memo_in_few_lent_places(rt: HostRuntime) -> Result<(), Fail> {
 fn rows_of_a_memo_in_lent_places(rt: HostRuntime) -> Result<(), Fail> {
     let mut rows = [KeptRow::of_nothing(); 8];
     let mut uppers = [KeptUpper::of_nothing(); 3];
-    let mut memo = LentMemo::new(&mut rows, &mut uppers);
+    let mut memo = LentMemo::new(&mut rows, &mut uppers, &mut []);
     check_keys_that_are_alike(&rt, &mut memo)?;
     let mut one = [KeptUpper::of_nothing(); 1];
-    let mut memo = LentMemo::new(&mut rows, &mut one);
+    let mut memo = LentMemo::new(&mut rows, &mut one, &mut []);
     check(&rt, &mut memo, [1, 1, 1, 0, 2, 0, 1, 1, 1], 4, true)?;
     check(&rt, &mut memo, [0, 3, 0, 1, 2, 0, 1, 1, 1], 4, true)?;
     check(&rt, &mut memo, [0, 3, 0, 1, 2, 0, 1, 1, 1], 3, true)

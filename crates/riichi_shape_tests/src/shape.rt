@@ -234,7 +234,7 @@ fn thirteen_tiles(rt: HostRuntime) -> Result<(), Fail> {
     let melds = Melds::new();
     same(&rt, shanten(&hand, &melds), 0);
     let (mut rows, mut uppers) = ([KeptRow::of_nothing(); 8], [KeptUpper::of_nothing(); 1]);
-    let mut memo = LentMemo::new(&mut rows, &mut uppers);
+    let mut memo = LentMemo::new(&mut rows, &mut uppers, &mut []);
     for _ in 0..2 {
         same(&rt, shanten_with(&mut memo, &hand, &melds), 0);
     }

@@ -8,7 +8,8 @@
 //! waits, and so their points, may differ.
 //!
 //! [`is_win`] says whether tiles have a reading, which does not depend on the tile that wins.
-//! [`waits`] are the kinds that would complete a hand, and [`push_waits`] writes them.
+//! [`waits`] are the kinds that would complete a hand, and [`push_waits`] writes them. [`SuitTiles`],
+//! [`mark_special_waits`] and [`with_tiles_left`] are the parts of it, for what keeps suits that were cut.
 //!
 //! No call takes memory. [`laws`] has a law of the definitions: a collection of sets stands in order
 //! in one list alone, so that equal readings are equal values.
@@ -43,5 +44,7 @@ pub use reading::Reading;
 pub use readings::Readings;
 pub use riichi_tiles::Block;
 pub use sets::Sets;
-pub use waiting::{MOST_WAITS, push_waits, waits};
+pub use special_waits::mark_special_waits;
+pub use suit_tiles::SuitTiles;
+pub use waiting::{MOST_WAITS, push_waits, waits, with_tiles_left};
 pub use winning::is_win;

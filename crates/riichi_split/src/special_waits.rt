@@ -9,7 +9,7 @@ use riichi_tiles::{Counts, Kind, KindSet};
 
 /// Marks the kinds that complete seven pairs or the orphans, where no meld stands.
 #[tactic(auto, using(crate::proofs::SpecialKinds::adds_both))]
-pub(crate) fn mark_special_waits(tiles: &Counts, marks: &mut KindSet)
+pub fn mark_special_waits(tiles: &Counts, marks: &mut KindSet)
     ensures { spec.AddsSpecial tiles.now 34 marks.old marks.new }
 {
     mark_pair_wait(tiles, marks);

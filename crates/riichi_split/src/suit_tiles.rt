@@ -10,9 +10,9 @@ use std::marker::Model;
 /// How many tiles there are of each rank of a suit. Of the honours the last two ranks are empty, and
 /// they make no runs.
 #[derive(Clone, Copy)]
-pub(crate) struct SuitTiles {
-    held: [u8; 9],
-    has_runs: bool,
+pub struct SuitTiles {
+    pub held: [u8; 9],
+    pub has_runs: bool,
 }
 
 impl Model for SuitTiles {
@@ -31,7 +31,7 @@ impl Model for SuitTiles {
 impl SuitTiles {
     /// The tiles of a suit in a hand.
     #[tactic(auto, using(crate::proofs::Filling::of_facts))]
-    pub(crate) fn of(counts: &[u8; 34], suit: Suit) -> SuitTiles
+    pub fn of(counts: &[u8; 34], suit: Suit) -> SuitTiles
         ensures { result ≡ spec.tiles_of_suit counts.now suit }
     {
         let mut held = [0; 9];
@@ -45,7 +45,7 @@ impl SuitTiles {
     }
 
     /// How many tiles of a rank there are.
-    pub(crate) fn get(&self, rank: usize) -> u8
+    pub fn get(&self, rank: usize) -> u8
         requires { rank < 9 }
         ensures value { result ≡ slice_index self.now.held rank }
         ensures nine { length self.now.held ≡ 9 }
@@ -74,7 +74,8 @@ impl SuitTiles {
         fewer
     }
 
-    fn total(&self) -> u16
+    /// How many tiles there are.
+    pub fn total(&self) -> u16
         ensures value { result ≡ sum self.now.held }
         ensures nine { length self.now.held ≡ 9 }
     {
@@ -86,7 +87,7 @@ impl SuitTiles {
     }
 
     /// What the sum of all numbers leaves over by three.
-    pub(crate) fn third(&self) -> usize
+    pub fn third(&self) -> usize
         ensures value { result ≡ spec.third_of self.now.held }
         ensures nine { length self.now.held ≡ 9 }
     {
@@ -162,7 +163,7 @@ impl SuitTiles {
 
     /// Whether the tiles and one more of a rank are sets, where `third` is what the sum of all numbers
     /// leaves over without it.
-    pub(crate) fn are_sets_with(&self, rank: usize, third: usize) -> bool
+    pub fn are_sets_with(&self, rank: usize, third: usize) -> bool
         requires rank { rank < 9 }
         requires room { slice_index self.now.held rank < 4 }
         requires third { third ≡ spec.third_of self.now.held }
@@ -173,7 +174,7 @@ impl SuitTiles {
     }
 
     /// Whether the tiles and one more of a rank are sets and a pair.
-    pub(crate) fn are_sets_and_pair_with(&self, rank: usize, third: usize) -> bool
+    pub fn are_sets_and_pair_with(&self, rank: usize, third: usize) -> bool
         requires rank { rank < 9 }
         requires room { slice_index self.now.held rank < 4 }
         requires third { third ≡ spec.third_of self.now.held }
@@ -186,7 +187,7 @@ impl SuitTiles {
     /// tiles that leave nothing over by three, and a pair leaves two. A suit without tiles is no sets.
     #[inline(never)]
     #[tactic(auto, using(crate::proofs::SuitCuts::pairs_facts))]
-    pub(crate) fn pairs(&self) -> usize
+    pub fn pairs(&self) -> usize
         ensures pairs { spec.HasPairs self.now result }
         ensures few { result ≤ 2 }
     {

@@ -31,7 +31,7 @@ pub fn waits(hand: &HandRecord) -> KindSet
 
 /// Those of some kinds of which hand and melds hold fewer than four.
 #[tactic(auto, using(riichi_tiles::proofs::KindSets::kind_sets, crate::proofs::KindMarks::adds_none))]
-fn with_tiles_left(kinds: &KindSet, tiles: &Counts, melds: &Melds) -> KindSet
+pub fn with_tiles_left(kinds: &KindSet, tiles: &Counts, melds: &Melds) -> KindSet
     ensures { (kind : ℕ) → IsMarked result kind ↔ ((kind < 34)
         × IsMarked kinds.now kind × (copies_held tiles.now melds.now kind < 4)) }
 {

@@ -56,5 +56,8 @@ abbrev pub counted_reasons : ShapeParts → ℕ → List ℕ
 counted_reasons parts turns =
     if is_thirteen parts.tiles parts.melds then hand_odds_reason (odds_of parts turns) else flat_map (after_reason (best_odds parts turns)) (best_odds parts turns)
 
+abbrev pub uncounted_reason : List ℕ
+uncounted_reason = codes "\n  chances are counted to three-shanten, and for no more draws than there are tiles"
+
 abbrev pub chances_reasons : ShapeParts → ℕ → List ℕ
-chances_reasons parts turns = if are_counted parts turns then counted_reasons parts turns else codes "\n  chances are counted to three-shanten, and for no more draws than there are tiles"
+chances_reasons parts turns = if are_counted parts turns then counted_reasons parts turns else uncounted_reason

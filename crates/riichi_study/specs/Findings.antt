@@ -16,16 +16,18 @@ use Rattle.riichi_study.specs.declared.study.Study.{Study}
 use Rattle.riichi_study.specs.declared.study.Study.TheVariants as asks
 use Rattle.riichi_study.specs.CallParts.{CallParts}
 use Rattle.riichi_study.specs.Prospects.{prospects_of}
+use Rattle.riichi_study.specs.WorthParts.{WorthParts}
 
 -- Thirteen tiles: their shanten, what they accept, and what stands beyond their next step. Fourteen: their shanten, and the best discards
--- in an order. Calls: the shanten, the thrown tile, the calls that bring nearer, and what a kong leads to. Safety: the record, and chances: the hand
--- and the turns that are to come, of which all that is told is found by itself.
+-- in an order. Calls: the shanten, the thrown tile, the calls that bring nearer, and what a kong leads to. Safety: the record, chances: the hand
+-- and the turns that are to come, and worth: its record and these, of which all that is told is found by itself.
 pub data Finding : Type 0 where
   Hand : ℤ → List (ℕ × ℕ) → Option Outlook → Finding
   Discards : ℤ → Order → List Prospect → Finding
   Calls : ℤ → ℕ → List (Option Call) → Option ShapeAnswer → Finding
   Safety : SafeParts → Finding
   Chances : ShapeParts → ℕ → Finding
+  Worth : WorthParts → ℕ → Finding
 
 unfoldable pub shape_finding : ShapeParts → Order → Finding
 shape_finding parts order =
@@ -42,3 +44,4 @@ finding_of (asks.Shape parts order) = shape_finding parts order
 finding_of (asks.Calls parts) = calls_finding parts
 finding_of (asks.Safe parts) = Safety parts
 finding_of (asks.Chances parts turns) = Chances parts turns
+finding_of (asks.Worth parts turns) = Worth parts turns

@@ -1,12 +1,15 @@
 pub mod Words
 pub mod Values
 pub mod CallParts
+pub mod WorthParts
+pub mod NamedRules
 pub mod Records
 pub mod Lines
 pub mod Prospects
 pub mod Findings
 pub mod SafeTexts
 pub mod ChanceTexts
+pub mod WorthTexts
 pub mod Texts
 pub mod SafeReasons
 pub mod Reasons

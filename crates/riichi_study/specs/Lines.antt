@@ -8,21 +8,25 @@ use Rattle.riichi_hand.specs.declared.job.Job.{Job}
 use Rattle.riichi_hand.specs.declared.job.Job.TheVariants as jobs
 use Rattle.riichi_hand.specs.HandParts.{ShapeParts}
 use Rattle.riichi_hand.specs.Lines.{is_other_byte, outcome_of}
-use Rattle.riichi_hand.specs.Rules.{first_profile}
+use Rattle.riichi_hand.specs.Rules.{Rules, first_profile}
+use Rattle.riichi_hand.specs.Values.{wind_of}
+use Rattle.riichi_hand.specs.declared.win.Wind.{Wind}
 use Rattle.riichi_hand.specs.Words.{words_of}
 use Rattle.riichi_deeper.specs.declared.thrown.Thrower.{Thrower}
 use Rattle.riichi_safe.specs.Records.{safe_record_of}
 use Rattle.riichi_safe.specs.SafeParts.{SafeParts}
+use Rattle.riichi_worth.specs.declared.stakes.Stakes.{Stakes}
 use Rattle.riichi_study.specs.declared.key.StudyKey.{StudyKey}
 use Rattle.riichi_study.specs.declared.key.StudyKey.TheVariants as keys
 use Rattle.riichi_study.specs.declared.name.StudyName.{StudyName}
-use Rattle.riichi_study.specs.declared.name.StudyName.TheVariants.{Shape, Calls, Safe, Chances}
+use Rattle.riichi_study.specs.declared.name.StudyName.TheVariants.{Shape, Calls, Safe, Chances, Worth}
 use Rattle.riichi_study.specs.declared.order.Order.{Order}
 use Rattle.riichi_study.specs.declared.order.Order.TheVariants.{Live}
 use Rattle.riichi_study.specs.declared.study.Study.{Study}
 use Rattle.riichi_study.specs.declared.study.Study.TheVariants as asks
 use Rattle.riichi_study.specs.CallParts.{CallParts}
-use Rattle.riichi_study.specs.Records.{call_record_of}
+use Rattle.riichi_study.specs.NamedRules.{rules_named}
+use Rattle.riichi_study.specs.Records.{call_record_of, worth_record_of}
 use Rattle.riichi_study.specs.Values.{order_of, thrower_of, tile_named, tiles_named, turns_named}
 use Rattle.riichi_study.specs.Words.{only_of, shape_words, own_values, space_before_each, study_named}
 
@@ -68,6 +72,13 @@ from_asked words = then_read (only_of (own_values keys.From words)) (value_or (E
 unfoldable pub turns_asked : List (List ℕ) → Result ℕ LineFault
 turns_asked words = then_read (only_of (own_values keys.Turns words)) (value_or (Err (Line H6)) turns_named)
 
+unfoldable pub wind_asked : StudyKey → List (List ℕ) → Result Wind LineFault
+wind_asked key words = then_read (only_of (own_values key words)) (value_or (Err (Line H6)) wind_of)
+
+-- the first profile, where none are said
+unfoldable pub rules_asked : List (List ℕ) → Result Rules LineFault
+rules_asked words = then_read (only_of (own_values keys.Rules words)) (value_or (Ok first_profile) rules_named)
+
 -- no tiles, where none are said
 unfoldable pub tiles_asked : StudyKey → List (List ℕ) → Result (List ℕ) LineFault
 tiles_asked key words = then_read (only_of (own_values key words)) (value_or (Ok (replicate 34 0)) tiles_named)
@@ -98,12 +109,26 @@ unfoldable pub chances_asked : List (List ℕ) → Result (Option Study) LineFau
 chances_asked words =
     then_read (hand_asked Chances words) (λ hand. then_read (turns_asked words) (λ turns. Ok (Some (asks.Chances hand turns))))
 
+abbrev pub stakes_with : Wind → Wind → List ℕ → Rules → Stakes
+stakes_with seat round dora rules = record { rules = rules; seat = seat; round = round; dora = dora }
+
+unfoldable pub stakes_asked : List (List ℕ) → Result Stakes LineFault
+stakes_asked words =
+    then_read (wind_asked keys.Seat words) (λ seat. then_read (wind_asked keys.Round words) (λ round. then_read (tiles_asked keys.Dora words) (λ dora. then_read (rules_asked words) (λ rules.
+    Ok (stakes_with seat round dora rules)))))
+
+unfoldable pub worth_asked : List (List ℕ) → Result (Option Study) LineFault
+worth_asked words =
+    then_read (hand_asked Worth words) (λ hand. then_read (turns_asked words) (λ turns. then_read (stakes_asked words) (λ stakes.
+    then_read (worth_record_of hand stakes) (λ parts. Ok (Some (asks.Worth parts turns))))))
+
 abbrev pub job_asked : Option StudyName → List (List ℕ) → Result (Option Study) LineFault
 job_asked None words = Err (Line H2)
 job_asked (Some Shape) words = shape_asked words
 job_asked (Some Calls) words = calls_asked words
 job_asked (Some Safe) words = safe_asked words
 job_asked (Some Chances) words = chances_asked words
+job_asked (Some Worth) words = worth_asked words
 
 -- no word asks nothing; a byte that isn't printable is a fault before each other
 abbrev pub line_asked : Bool → List (List ℕ) → Result (Option Study) LineFault

@@ -11,9 +11,10 @@ use Rattle.riichi_deeper.specs.declared.gains.Call.{Call}
 use Rattle.riichi_deeper.specs.declared.outlook.Outlook.{Outlook}
 use Rattle.riichi_study.specs.declared.prospect.Prospect.{Prospect}
 use Rattle.riichi_study.specs.declared.study.Study.{Study}
-use Rattle.riichi_study.specs.Findings.{Finding, Hand, Discards, Calls, Safety, Chances, finding_of}
+use Rattle.riichi_study.specs.Findings.{Finding, Hand, Discards, Calls, Safety, Chances, Worth, finding_of}
 use Rattle.riichi_study.specs.ChanceTexts.{chances_reasons}
 use Rattle.riichi_study.specs.SafeReasons.{safe_reasons}
+use Rattle.riichi_study.specs.WorthTexts.{worth_reasons}
 use Rattle.riichi_study.specs.Texts.{is_called}
 
 -- ---- numbers in words
@@ -91,6 +92,7 @@ finding_reasons (Discards shanten order prospects) = flat_map prospect_reason pr
 finding_reasons (Calls shanten tile calls kong) = none_reason calls ++ flat_map call_reason calls ++ kong_reason tile kong
 finding_reasons (Safety parts) = safe_reasons parts
 finding_reasons (Chances parts turns) = chances_reasons parts turns
+finding_reasons (Worth parts turns) = worth_reasons parts turns
 
 abbrev pub study_reasons : Study → List ℕ
 study_reasons study = finding_reasons (finding_of study)

@@ -12,8 +12,9 @@ use Rattle.riichi_deeper.specs.declared.outlook.Outlook.{Outlook}
 use Rattle.riichi_study.specs.declared.prospect.Prospect.{Prospect}
 use Rattle.riichi_study.specs.declared.study.Study.{Study}
 use Rattle.riichi_study.specs.ChanceTexts.{chances_text}
-use Rattle.riichi_study.specs.Findings.{Finding, Hand, Discards, Calls, Safety, Chances, finding_of}
+use Rattle.riichi_study.specs.Findings.{Finding, Hand, Discards, Calls, Safety, Chances, Worth, finding_of}
 use Rattle.riichi_study.specs.SafeTexts.{safe_text}
+use Rattle.riichi_study.specs.WorthTexts.{worth_answer}
 
 -- ---- a shape
 
@@ -65,6 +66,7 @@ finding_text (Discards shanten order prospects) = shanten_front shanten ++ flat_
 finding_text (Calls shanten tile calls kong) = codes "calls" ++ none_text calls ++ flat_map (call_text shanten) calls ++ kong_text tile kong
 finding_text (Safety parts) = safe_text parts
 finding_text (Chances parts turns) = chances_text parts turns
+finding_text (Worth parts turns) = worth_answer parts turns
 
 abbrev pub study_text : Study → List ℕ
 study_text study = finding_text (finding_of study)

@@ -8,12 +8,12 @@ use Rattle.riichi_hand.specs.declared.fault.LineFault.TheVariants.{Line}
 use Rattle.riichi_hand.specs.Entries.{cut_at_equals}
 use Rattle.riichi_hand.specs.Values.{value_beside}
 use Rattle.riichi_study.specs.declared.key.StudyKey.{StudyKey}
-use Rattle.riichi_study.specs.declared.key.StudyKey.TheVariants.{Order, Tile, From, Own, Thrown, Since, Turns}
+use Rattle.riichi_study.specs.declared.key.StudyKey.TheVariants.{Order, Tile, From, Own, Thrown, Since, Turns, Seat, Round, Dora, Rules}
 use Rattle.riichi_study.specs.declared.name.StudyName.{StudyName}
-use Rattle.riichi_study.specs.declared.name.StudyName.TheVariants.{Shape, Calls, Safe, Chances}
+use Rattle.riichi_study.specs.declared.name.StudyName.TheVariants.{Shape, Calls, Safe, Chances, Worth}
 
 abbrev pub study_named : List ℕ → Option StudyName
-study_named word = value_beside ((codes "shape", Shape) ∷ (codes "calls", Calls) ∷ (codes "safe", Safe) ∷ (codes "chances", Chances) ∷ []) word
+study_named word = value_beside ((codes "shape", Shape) ∷ (codes "calls", Calls) ∷ (codes "safe", Safe) ∷ (codes "chances", Chances) ∷ (codes "worth", Worth) ∷ []) word
 
 abbrev pub key_word : StudyKey → List ℕ
 key_word Order = codes "order"
@@ -23,6 +23,10 @@ key_word Own = codes "own"
 key_word Thrown = codes "thrown"
 key_word Since = codes "since"
 key_word Turns = codes "turns"
+key_word Seat = codes "seat"
+key_word Round = codes "round"
+key_word Dora = codes "dora"
+key_word Rules = codes "rules"
 
 -- the keys that a line of a job has beside those of a shape line
 abbrev pub own_keys : StudyName → List StudyKey
@@ -30,6 +34,7 @@ own_keys Shape = Order ∷ []
 own_keys Calls = Tile ∷ From ∷ []
 own_keys Safe = Own ∷ Thrown ∷ Since ∷ []
 own_keys Chances = Turns ∷ []
+own_keys Worth = Turns ∷ Seat ∷ Round ∷ Dora ∷ Rules ∷ []
 
 abbrev pub value_cut : StudyKey → Option (List ℕ × List ℕ) → Option (List ℕ)
 value_cut key None = None

@@ -18,6 +18,14 @@ pub enum StudyKey {
     Since,
     /// How many turns are to come.
     Turns,
+    /// The player's wind.
+    Seat,
+    /// The prevalent wind.
+    Round,
+    /// The dora indicators.
+    Dora,
+    /// The rules by which a win is valued.
+    Rules,
 }
 
 impl StudyKey {
@@ -35,6 +43,10 @@ impl StudyKey {
             StudyKey::Thrown => "thrown",
             StudyKey::Since => "since",
             StudyKey::Turns => "turns",
+            StudyKey::Seat => "seat",
+            StudyKey::Round => "round",
+            StudyKey::Dora => "dora",
+            StudyKey::Rules => "rules",
         }
     }
 }

@@ -1,13 +1,14 @@
 //! Questions of a player or a trainer, a line each, and what their answers are made of.
 //!
 //! [`read_study`] reads a line: a [`Study`], nothing, or the line's first fault. A shape is asked with the [`Order`] of its best
-//! discards, calls with the tile that another player has thrown, as a [`CallRecord`], chances with the [`Turns`] that are to come.
+//! discards, calls with the tile that another player has thrown, as a [`CallRecord`], chances with the [`Turns`] that are to come, and what a hand is worth with these and what a win is valued by, as
+//! a [`WorthRecord`].
 //!
 //! [`prospects`] are the best discards of fourteen tiles in an order, each with what stands beyond it; the rest of an answer
 //! `riichi_shape` and `riichi_deeper` find. It is written in pieces, each behind what a text holds: [`push_shanten`] and
 //! [`push_hand`] or [`push_prospect`] of a shape, [`push_calls`], [`push_call`] and [`push_kong`] of calls. The same in words are
 //! [`push_hand_reason`] and its neighbours, lines that begin with two spaces. [`push_chances_front`] and [`push_after`] are the pieces
-//! of chances. docs/NOTATION.md has the lines and the answers.
+//! of chances, and [`push_worth`] and [`push_worth_after`] those of a worth. docs/NOTATION.md has the lines and the answers.
 //!
 //! No call takes memory.
 #![tactic(auto)]
@@ -27,6 +28,8 @@ mod text;
 mod turns;
 mod values;
 mod words;
+mod worth_record;
+mod worth_text;
 
 pub use call_record::CallRecord;
 pub use chance_text::{
@@ -53,3 +56,8 @@ pub use text::{
     push_hand, push_kong, push_prospect, push_shanten,
 };
 pub use turns::Turns;
+pub use worth_record::WorthRecord;
+pub use worth_text::{
+    MOST_WORTH, MOST_WORTH_AFTER, MOST_WORTH_REASON, push_hand_worth_reason, push_worth,
+    push_worth_after, push_worth_reason,
+};

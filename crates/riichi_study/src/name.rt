@@ -16,6 +16,8 @@ pub enum StudyName {
     Safe,
     /// How likely a hand is to be ready, and to win, by so many draws.
     Chances,
+    /// What a hand is worth by so many draws.
+    Worth,
 }
 
 impl StudyName {
@@ -30,6 +32,8 @@ impl StudyName {
             Some(StudyName::Safe)
         } else if word == b"chances".as_slice() {
             Some(StudyName::Chances)
+        } else if word == b"worth".as_slice() {
+            Some(StudyName::Worth)
         } else {
             None
         }
@@ -51,6 +55,18 @@ impl StudyName {
                     || own_value(StudyKey::Since, word).is_some()
             }
             StudyName::Chances => own_value(StudyKey::Turns, word).is_some(),
+            StudyName::Worth => is_of_worth(word),
         }
     }
+}
+
+/// Whether a word has a key of the line `worth`.
+fn is_of_worth(word: &[u8]) -> bool
+    ensures { result ≡ spec.is_own StudyName.Worth word.now }
+{
+    own_value(StudyKey::Turns, word).is_some()
+        || own_value(StudyKey::Seat, word).is_some()
+        || own_value(StudyKey::Round, word).is_some()
+        || own_value(StudyKey::Dora, word).is_some()
+        || own_value(StudyKey::Rules, word).is_some()
 }

@@ -12,14 +12,17 @@ use crate::name::StudyName;
 use crate::order::Order;
 use crate::study::Study;
 use crate::turns::Turns;
-use crate::values::{read_thrower, read_tile, read_tiles};
+use crate::values::{read_named_rules, read_thrower, read_tile, read_tiles, read_wind};
 use crate::words::{LineRoom, only_value, push_others};
+use crate::worth_record::WorthRecord;
 use riichi_deeper::{Thrower, Thrown};
 use riichi_hand::{
-    Job, LineCode, LineFault, MOST_LINE, Rules, ShapeRecord, has_other_byte, next_word, read_line,
+    Job, LineCode, LineFault, MOST_LINE, Rules, ShapeRecord, Wind, has_other_byte, next_word,
+    read_line,
 };
 use riichi_safe::SafeRecord;
 use riichi_tiles::{Counts, Kind};
+use riichi_worth::Stakes;
 
 /// The question of a line, `None` for a comment or a line of spaces alone or nothing, or the line's first fault. The line comes
 /// without the line feed and the carriage return that ended it.
@@ -44,6 +47,7 @@ pub fn read_study(line: &[u8]) -> Result<Option<Study>, LineFault>
         Some(StudyName::Calls) => read_calls(words),
         Some(StudyName::Safe) => read_safe(words),
         Some(StudyName::Chances) => read_chances(words),
+        Some(StudyName::Worth) => read_worth(words),
         None => Err(LineFault::Line(LineCode::H2)),
     }
 }
@@ -95,6 +99,36 @@ fn read_chances(words: &[u8]) -> Result<Option<Study>, LineFault>
     let hand = read_hand(StudyName::Chances, words)?;
     let turns = read_turns(words)?;
     Ok(Some(Study::Chances(hand, turns)))
+}
+
+/// The question of the words of a line behind `worth`.
+#[tactic(auto, unfolding(crate::specs::Lines::worth_asked))]
+fn read_worth(words: &[u8]) -> Result<Option<Study>, LineFault>
+    requires { length words.now ≤ MOST_LINE }
+    ensures { result ≡ spec.worth_asked (words_of words.now) }
+{
+    let hand = read_hand(StudyName::Worth, words)?;
+    let turns = read_turns(words)?;
+    let stakes = read_stakes(words)?;
+    let asked = WorthRecord::new(hand, stakes)?;
+    Ok(Some(Study::Worth(asked, turns)))
+}
+
+/// What the points of a win hang on beside the hand.
+#[tactic(auto, unfolding(crate::specs::Lines::stakes_asked))]
+fn read_stakes(words: &[u8]) -> Result<Stakes, LineFault>
+    ensures { result ≡ spec.stakes_asked (words_of words.now) }
+{
+    let seat = read_wind_of(StudyKey::Seat, words)?;
+    let round = read_wind_of(StudyKey::Round, words)?;
+    let dora = read_list(StudyKey::Dora, words)?;
+    let rules = read_rules_of(words)?;
+    Ok(Stakes {
+        rules,
+        seat,
+        round,
+        dora,
+    })
 }
 
 /// The shape that the words spell which are not of the study line's own.
@@ -190,5 +224,27 @@ fn read_turns(words: &[u8]) -> Result<Turns, LineFault>
     match only_value(StudyKey::Turns, words)? {
         None => Err(LineFault::Line(LineCode::H6)),
         Some(value) => Turns::read(value).ok_or(LineFault::Line(LineCode::H4)),
+    }
+}
+
+/// The wind of a key.
+#[tactic(auto, unfolding(crate::specs::Lines::wind_asked))]
+fn read_wind_of(key: StudyKey, words: &[u8]) -> Result<Wind, LineFault>
+    ensures { result ≡ spec.wind_asked key (words_of words.now) }
+{
+    match only_value(key, words)? {
+        None => Err(LineFault::Line(LineCode::H6)),
+        Some(value) => read_wind(value).ok_or(LineFault::Line(LineCode::H4)),
+    }
+}
+
+/// The rules by which a win is valued: the first profile, where none are said.
+#[tactic(auto, unfolding(crate::specs::Lines::rules_asked))]
+fn read_rules_of(words: &[u8]) -> Result<Rules, LineFault>
+    ensures { result ≡ spec.rules_asked (words_of words.now) }
+{
+    match only_value(StudyKey::Rules, words)? {
+        None => Ok(Rules::One),
+        Some(value) => read_named_rules(value).ok_or(LineFault::Line(LineCode::H4)),
     }
 }

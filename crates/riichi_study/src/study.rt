@@ -2,6 +2,7 @@
 use crate::call_record::CallRecord;
 use crate::order::Order;
 use crate::turns::Turns;
+use crate::worth_record::WorthRecord;
 use riichi_hand::ShapeRecord;
 use riichi_safe::SafeRecord;
 
@@ -16,4 +17,6 @@ pub enum Study {
     Safe(SafeRecord),
     /// How likely is this hand to be ready, and to win, by so many draws?
     Chances(ShapeRecord, Turns),
+    /// What is this hand worth by so many draws?
+    Worth(WorthRecord, Turns),
 }

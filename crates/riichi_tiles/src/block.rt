@@ -30,9 +30,11 @@ impl Block {
     pub fn contains(&self, kind: Kind) -> bool
         ensures { result ≡ nat_lt 0 (copies self.now kind) }
     {
-        match *self {
-            Block::Run(low) => { low.index() <= kind.index() && kind.index() < low.index() + 3 }
-            Block::Triplet(held) | Block::Pair(held) => held == kind,
-        }
+        // No jump for each sort of block, since they come in any order.
+        let (low, kinds) = match *self {
+            Block::Run(low) => (low, 3),
+            Block::Triplet(held) | Block::Pair(held) => (held, 1),
+        };
+        (low.index() <= kind.index()) & (kind.index() < low.index() + kinds)
     }
 }

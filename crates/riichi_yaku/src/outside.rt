@@ -2,18 +2,16 @@
 ghost use Rattle.std.specs.Prelude.{◌≡◌};
 ghost use Rattle.riichi_yaku.specs.Outside as spec;
 
-use riichi_blocks::{Blocks, all_have_orphans, all_have_terminals, some_has_honour};
+use riichi_blocks::Blocks;
 
 pub(crate) fn is_outside_hand(blocks: &Blocks) -> bool
     ensures { result ≡ spec.is_outside_hand blocks.now }
 {
-    all_have_orphans(blocks.as_slice()) && blocks.has_runs() && some_has_honour(blocks.as_slice())
+    blocks.all_have_orphans() && blocks.has_runs() && blocks.some_has_honour()
 }
 
 pub(crate) fn is_terminals_in_all_sets(blocks: &Blocks) -> bool
     ensures { result ≡ spec.is_terminals_in_all_sets blocks.now }
 {
-    all_have_terminals(blocks.as_slice())
-        && !some_has_honour(blocks.as_slice())
-        && blocks.has_runs()
+    blocks.all_have_terminals() && !blocks.some_has_honour() && blocks.has_runs()
 }

@@ -24,15 +24,6 @@ pub fn is_pinfu(blocks: &Blocks, reading: &Reading, win: &WinRecord) -> bool
         && has_two_sided_wait(reading, win.winning())
 }
 
-fn has_equal_runs(blocks: &Blocks) -> bool
-    ensures { result ≡ spec.has_equal_runs blocks.now }
-{
-    blocks
-        .as_slice()
-        .iter()
-        .any(|block| blocks.runs_equal_to(block) >= 2)
-}
-
 fn are_runs_paired(blocks: &Blocks) -> bool
     ensures { result ≡ spec.are_runs_paired blocks.now }
 {
@@ -51,7 +42,7 @@ pub(crate) fn is_twice_pure_double_chow(blocks: &Blocks, win: &WinRecord) -> boo
 pub(crate) fn is_pure_double_chow(blocks: &Blocks, win: &WinRecord) -> bool
     ensures { result ≡ spec.is_pure_double_chow blocks.now win.now }
 {
-    win.melds().concealed() && has_equal_runs(blocks) && !is_twice_pure_double_chow(blocks, win)
+    win.melds().concealed() && blocks.has_equal_runs() && !is_twice_pure_double_chow(blocks, win)
 }
 
 fn has_run_in_each_suit(blocks: &Blocks, rank: usize) -> bool

@@ -4,12 +4,25 @@ use crate::game_rows::{ChangesRow, FinalsRow, MoveRow, NeedsRow, OutcomeRow, Pro
 
 pub const MOST_ANSWER: usize = 3072;
 pub const MOST_JSON: usize = 12288;
+pub const MOST_STUDY: usize = 65536;
 
 extern "C" {
     pub fn riichi_answer(rules: u32, line: *const u8, line_len: usize, room: *mut u8, room_len: usize) -> usize;
     pub fn riichi_json(rules: u32, line: *const u8, line_len: usize, room: *mut u8, room_len: usize) -> usize;
     pub fn riichi_explain(rules: u32, line: *const u8, line_len: usize, room: *mut u8, room_len: usize) -> usize;
     pub fn riichi_explain_json(rules: u32, line: *const u8, line_len: usize, room: *mut u8, room_len: usize) -> usize;
+    pub fn riichi_study(
+        line: *const u8,
+        line_len: usize,
+        places: *mut [u16; 564],
+        places_len: usize,
+        rows: *mut [u64; 152],
+        rows_len: usize,
+        worths: *mut [u64; 57],
+        worths_len: usize,
+        room: *mut u8,
+        room_len: usize,
+    ) -> usize;
     pub fn riichi_rules(text: *const u8, text_len: usize, wrong: *mut usize) -> u32;
     pub fn riichi_version(room: *mut u8, room_len: usize) -> usize;
     pub fn riichi_answer_lines(

@@ -26,7 +26,7 @@
 //! # }
 //! ```
 //!
-//! Many hands without text are answered by [`arrays`]. The module [`mod@game`] keeps the ledger of a game of four, and the function
+//! A question of a player, as how likely a hand is to win, is answered by [`study()`]. Many hands without text are answered by [`arrays`]. The module [`mod@game`] keeps the ledger of a game of four, and the function
 //! [`game()`] answers a text of games.
 //!
 //! A line is a `&str` or bytes, without its line feed and a carriage return before that. Every call may be made by any thread.
@@ -40,10 +40,12 @@ mod game_rows;
 mod game_values;
 mod json;
 mod rules;
+mod study;
 mod values;
 
 pub use error::Error;
 pub use rules::{House, Rules, RulesFault};
+pub use study::{study, Study};
 pub use values::{Accepted, Answer, Code, Key, Kind, Limit, NoKind, Payment, Refused, Won, Yaku};
 
 type Call = unsafe extern "C" fn(u32, *const u8, usize, *mut u8, usize) -> usize;

@@ -2,7 +2,7 @@
 
 By keywords: `win`, `waits`, `shape`. One line a call: `text`, `answer`, `json`, `explain`, `why`, `hint`. Many: `texts`, `jsons`,
 `answers`, `lines`, `json_lines`. Many hands without text: `shanten`, `shapes`, `discards`, `waits`, over buffers of counts; many wins:
-`wins`. A game of four, deal by deal: `Game`; as a text: `game`. Names of tiles elsewhere: `tiles`.
+`wins`. A question of a player, as how likely a hand is to win: `study`. A game of four, deal by deal: `Game`; as a text: `game`. Names of tiles elsewhere: `tiles`.
 The package has the shared library inside; RIICHI_DESK in the environment names another one.
 """
 
@@ -24,6 +24,7 @@ from .questions import KeywordRefused, line, shape, waits, win
 from .records import answer, explain, json, text, why
 from .rules import Profile, Rules
 from .scores import NO_WIN, NO_YAKU, WON, Score, Win, wins
+from .studies import study
 from .tables import table
 from .told import Table
 from .values import Accepted, Answer, NoWin, NoYaku, Refused, Shape, Waits, Won, Yaku
@@ -112,6 +113,7 @@ __all__ = [
     "shanten",
     "shape",
     "shapes",
+    "study",
     "table",
     "text",
     "texts",

@@ -26,6 +26,7 @@ _ARGUMENTS: dict[str, list[Any]] = {
     "riichi_shapes": [_AT, _SIZE] * 6,
     "riichi_deeper": [_AT, _SIZE] * 6,
     **dict.fromkeys(("riichi_discards", "riichi_calls"), [_AT, _SIZE] * 7),
+    "riichi_study": [ctypes.c_char_p, _SIZE, *[_AT, _SIZE] * 4],
     "riichi_wins": [_RULES, *[_AT, _SIZE] * 2],
     "riichi_game_after": [_AT, _AT, _AT, _SIZE, _AT],
     "riichi_game_lines": [_RULES, ctypes.c_char_p, _SIZE, _SIZE, _AT, _SIZE, ctypes.POINTER(_SIZE)],

@@ -23,8 +23,8 @@ count-requires-then-are_counted-clause-counted g c =
     ∙ ap (λ n. nat_le distance 4 && nat_le c.args.turns n) c.unseen_tiles-unseen.ensures.value
     )
 
-pub returns : goal.returns
-returns g c =
+pub returns-clause-found : goal.returns-clause-found
+returns-clause-found g c =
     let hand = c.args.hand.now in
     let distance = distance_of hand.tiles hand.melds in
     let answer = c.shape_with-answer.result in

@@ -2,23 +2,21 @@ use Rattle.std.proofs.Common.{◌≡◌, ℕ, ◌+◌, ◌<◌, ◌≤◌, Bool,
 use Rattle.std.proofs.Common as width
 use Rattle.std.proofs.lemmas.Bool.{leb-false}
 use Rattle.std.proofs.lemmas.Int.{ints}
-use Rattle.std.specs.Vec.{vec_items}
 use Rattle.riichi_hand.specs.Hand.{copies_with}
 use Rattle.riichi_hand.specs.HandParts.{ShapeParts}
 use Rattle.riichi_shape.specs.EveryWinning.{distance_of}
 use Rattle.riichi_shape.specs.LiveCopies.{live_in}
 use Rattle.riichi_deeper.proofs.DeeperLemmas.{accepted_left}
 use Rattle.riichi_deeper.proofs.DrawnLemmas.{list_of_fourteen, list_of_thirteen, never_fourteen, never_thirteen, shanten_told}
-use Rattle.riichi_chances.specs.Graph.{Grows, LeadBefore}
+use Rattle.riichi_chances.specs.Graph.{Grows, HandGraph, LeadBefore, draws_in, places_in}
 use Rattle.riichi_chances.specs.Reachable.{MayCome}
-use Rattle.riichi_chances.specs.declared.graph.Draw.{Draw}
-use Rattle.riichi_chances.specs.declared.graph.Graph.{Graph}
+use Rattle.riichi_chances.specs.declared.node.Draw.{Draw}
 use Rattle.riichi_chances.proofs.BuildingLemmas.{DrawsSoFar, RestsSoFar, draws_end, draws_init, draws_none, draws_step, drawn_far, drawn_whole, no_draws_before, ok_as, rest_whole, rests_end, rests_init, rests_step, thirteen_told}
 use Rattle.riichi_chances.proofs.CountingLemmas.{best_at, drawn_accepted, drawn_nearer, left_rests, never_past}
 use Rattle.riichi_chances.proofs.GraphLemmas.{grows_after, grows_root, grows_same, same_root}
-use Rattle.riichi_chances.proofs.ReachableLemmas.{more_as, rest_comes, rests_come, too_many_then, within_drawn}
+use Rattle.riichi_chances.proofs.ReachableLemmas.{more_as, rest_comes, rests_come, on_err, within_drawn}
 use Rattle.riichi_chances.proofs.building.+building.Goals as goal
-use Rattle.riichi_chances.proofs.building.+building.Goals.{draws_of-then-live-gt0+in_ok-rests+in_ok-keep_draw, draws_of-else-live-gt0}
+use Rattle.riichi_chances.proofs.building.+building.Goals.{draws_of-then-live-gt0+in_ok-rests, draws_of-else-live-gt0}
 
 -- ---- the draws of thirteen tiles
 
@@ -27,7 +25,7 @@ draws_of-loop-number-init g t c = record {
   stays = refl;
   grows = grows_same c.args.asked.now c.args.graph.now c.requires.graph;
   within = λ group inside come. inside.each;
-  so_far = subst (λ (draws : List Draw). DrawsSoFar c.args.asked.now c.copies-copies.result.now c.args.graph.now draws 0) (sym c.new-draws.ensures.items)
+  so_far = subst (λ (draws : List Draw). DrawsSoFar c.args.asked.now c.copies-copies.result.now c.args.graph.now draws 0) (sym c.new-draws.ensures)
       (draws_init c.args.asked.now c.copies-copies.result.now c.args.graph.now c.args.accepted.now c.copies-copies.ensures.value c.requires.accepted);
 }
 
@@ -62,29 +60,29 @@ draws_of-loop-number-preserved g t c =
     let number = c.loop-number.number in
     let before = c.loop-number.graph in
     elim c.if-live-gt0.branch [
-      | draws_of-then-live-gt0+in_ok-rests+in_ok-keep_draw w ↦ (
+      | draws_of-then-live-gt0+in_ok-rests w ↦ (
           let drawn = w.with_tile-drawn.result in
           let drawn_is = w.with_tile-drawn.ensures.value in
           let after = w.rests_of.new.graph in
           let grown = grows_root drawn asked before after (ap (λ (p : ShapeParts). p.melds) drawn_is) (ap (λ (p : ShapeParts). p.seen) drawn_is) w.in_ok-rests.ensures.grows in
-          let more_is = ap vec_items w.draws-is ∙ w.in_ok-keep_draw.ensures in
+          let more_is = ap draws_in w.draws-is ∙ w.push.ensures in
           let draw : Draw = record { live = get_or copies number 0; rests = w.in_ok-rests.rests } in
-          let step = draws_step asked copies before after so_far.grows.whole grown number c.loop-number-test.true c.loop-number.draws.items c.if-live-gt0.draws.items so_far.so_far w.if-live-gt0.true w.at.result w.at.ensures drawn drawn_is draw refl w.in_ok-rests.rests.items refl w.in_ok-rests.ensures.before w.in_ok-rests.ensures.rests more_is in
+          let step = draws_step asked copies before after so_far.grows.whole grown number c.loop-number-test.true (draws_in c.loop-number.draws) (draws_in c.if-live-gt0.draws) so_far.so_far w.if-live-gt0.true w.at.result w.at.ensures drawn drawn_is draw refl (places_in w.in_ok-rests.rests) refl w.in_ok-rests.ensures.before w.in_ok-rests.ensures.rests more_is in
           record {
             stays = w.source-is ∙ w.rests_of.ensures.stays ∙ so_far.stays;
-            grows = subst (λ (graph : Graph). Grows asked c.args.graph.now graph) (sym w.graph-is) (grows_after asked c.args.graph.now before after so_far.grows grown);
-            within = λ group inside come. subst (λ (graph : Graph). All (MayCome group) graph.hands.keys) (sym w.graph-is)
+            grows = subst (λ (graph : HandGraph). Grows asked c.args.graph.now graph) (sym w.graph-is) (grows_after asked c.args.graph.now before after so_far.grows grown);
+            within = λ group inside come. subst (λ (graph : HandGraph). All (MayCome group) graph.hands) (sym w.graph-is)
                 (w.in_ok-rests.ensures.within group (within_drawn group asked drawn c.args.graph.now before (ap (λ (p : ShapeParts). p.melds) drawn_is) (ap (λ (p : ShapeParts). p.seen) drawn_is) inside (so_far.within group inside come))
                 (rests_come group asked drawn c.args.graph.now number w.at.result inside c.requires.far c.loop-number-test.true (drawn_accepted asked copies number (sym c.copies-copies.ensures.value ∙ c.requires.accepted) c.loop-number-test.true w.if-live-gt0.true) w.at.ensures drawn_is come));
-            so_far = subst (λ (graph : Graph). DrawsSoFar asked copies graph c.if-live-gt0.draws.items (number + 1)) (sym w.graph-is) step;
+            so_far = subst (λ (graph : HandGraph). DrawsSoFar asked copies graph (draws_in c.if-live-gt0.draws) (number + 1)) (sym w.graph-is) step;
           }
           )
       | draws_of-else-live-gt0 w ↦ record {
         stays = w.source-is ∙ so_far.stays;
-        grows = subst (λ (graph : Graph). Grows asked c.args.graph.now graph) (sym w.graph-is) so_far.grows;
-        within = λ group inside come. subst (λ (graph : Graph). All (MayCome group) graph.hands.keys) (sym w.graph-is) (so_far.within group inside come);
-        so_far = subst (λ (graph : Graph). DrawsSoFar asked copies graph c.if-live-gt0.draws.items (number + 1)) (sym w.graph-is)
-            (subst (λ (draws : List Draw). DrawsSoFar asked copies before draws (number + 1)) (sym (ap vec_items w.draws-is)) (draws_none asked copies before c.loop-number.draws.items number c.loop-number-test.true w.if-live-gt0.false so_far.so_far));
+        grows = subst (λ (graph : HandGraph). Grows asked c.args.graph.now graph) (sym w.graph-is) so_far.grows;
+        within = λ group inside come. subst (λ (graph : HandGraph). All (MayCome group) graph.hands) (sym w.graph-is) (so_far.within group inside come);
+        so_far = subst (λ (graph : HandGraph). DrawsSoFar asked copies graph (draws_in c.if-live-gt0.draws) (number + 1)) (sym w.graph-is)
+            (subst (λ (draws : List Draw). DrawsSoFar asked copies before draws (number + 1)) (sym (ap draws_in w.draws-is)) (draws_none asked copies before (draws_in c.loop-number.draws) number c.loop-number-test.true w.if-live-gt0.false so_far.so_far));
       }
     ]
 
@@ -95,11 +93,11 @@ draws_of-returns-in_err-rests-clause-many g t c = λ group inside come.
     let so_far = c.loop-number.invariant in
     let within = within_drawn group asked c.with_tile-drawn.result c.args.graph.now c.loop-number.graph (ap (λ (p : ShapeParts). p.melds) drawn_is) (ap (λ (p : ShapeParts). p.seen) drawn_is) inside (so_far.within group inside come) in
     let rests = rests_come group asked c.with_tile-drawn.result c.args.graph.now c.loop-number.number c.at.result inside c.requires.far c.loop-number-test.true (drawn_accepted asked c.copies-copies.result.now c.loop-number.number (sym c.copies-copies.ensures.value ∙ c.requires.accepted) c.loop-number-test.true c.if-live-gt0.true) c.at.ensures drawn_is come in
-    too_many_then c.in_err-rests.field-0.0 c.from_residual.result c.from_residual.ensures.1 (more_as c.args.graph.now.most_hands c.loop-number.graph.most_hands group so_far.grows.most) (c.in_err-rests.ensures.many group within rests))
+    on_err c.from_residual.result (more_as c.args.graph.now.most_hands c.loop-number.graph.most_hands group so_far.grows.most (c.in_err-rests.ensures.many group within rests)))
 
 pub draws_of-returns-clause-leads : goal.draws_of-returns-clause-leads
 draws_of-returns-clause-leads g t c =
-    draws_end c.args.asked.now c.copies-copies.result.now c.loop-number.graph c.loop-number.draws.items c.loop-number.number (omega (arith, c.loop-number-test.false, c.loop-number.auto.number-end)) c.loop-number.invariant.so_far
+    draws_end c.args.asked.now c.copies-copies.result.now c.loop-number.graph (draws_in c.loop-number.draws) c.loop-number.number (omega (arith, c.loop-number-test.false, c.loop-number.auto.number-end)) c.loop-number.invariant.so_far
 
 -- ---- what thirteen tiles accept
 
@@ -111,9 +109,10 @@ node_of-returns-then-is_ready-clause-node g t c =
     let accepted_is = list_of_thirteen parts c.shape_with-answer.result c.in-Thirteen.accepted c.shape_with-answer.ensures.shape (thirteen_told parts c.requires.whole) c.in-Thirteen.is in
     record {
       whole = c.requires.whole;
+      shape = c.tiles-shape.ensures.shape;
       ready = ready;
       live = c.live-live.ensures.value ∙ ap live_in accepted_is;
-      before = subst (λ (draws : List Draw). LeadBefore (length c.args.graph.now.nodes.items) draws) (sym c.new.ensures.items) (no_draws_before (length c.args.graph.now.nodes.items));
+      before = subst (λ (draws : List Draw). LeadBefore (length c.args.graph.now.nodes) draws) (sym c.new.ensures) (no_draws_before (length c.args.graph.now.nodes));
       leads = λ far. absurd (true≢false far);
     }
 
@@ -135,6 +134,7 @@ node_of-returns-clause-node g t c =
     let accepted_is = list_of_thirteen parts c.shape_with-answer.result c.in-Thirteen.accepted c.shape_with-answer.ensures.shape (thirteen_told parts c.requires.whole) c.in-Thirteen.is in
     record {
       whole = c.requires.whole;
+      shape = c.tiles-shape.ensures.shape;
       ready = far;
       live = c.live-live.ensures.value ∙ ap live_in accepted_is;
       before = c.in_ok-draws-in-Thirteen.ensures.before;
@@ -153,14 +153,14 @@ rests_of-unreachable-requires g t c = never_thirteen c.args.drawn.now c.shape_wi
 pub rests_of-returns-clause-rests : goal.rests_of-returns-clause-rests
 rests_of-returns-clause-rests g t c =
     let discards_is = list_of_fourteen c.args.drawn.now c.shape_with-answer.result c.in-Fourteen.discards c.shape_with-answer.ensures.shape c.requires.whole.fourteen c.in-Fourteen.is in
-    ok_as c.places_of.result (λ rests left. left_rests c.places_of.new.graph.hands.keys rests.items c.args.drawn.now c.in-Fourteen.discards discards_is left) c.places_of.ensures.left
+    ok_as c.places_of.result (λ rests left. left_rests c.places_of.new.graph.hands (places_in rests) c.args.drawn.now c.in-Fourteen.discards discards_is left) c.places_of.ensures.left
 
 pub places_of-loop-at-init : goal.places_of-loop-at-init
 places_of-loop-at-init g t c = record {
   stays = refl;
   grows = grows_same c.args.drawn.now c.args.graph.now c.requires.graph;
   within = λ group inside come. inside.each;
-  so_far = subst (λ (places : List ℕ). RestsSoFar c.args.drawn.now c.args.discards.now c.args.graph.now places 0) (sym c.new-places.ensures.items) (rests_init c.args.drawn.now c.args.discards.now c.args.graph.now);
+  so_far = subst (λ (places : List ℕ). RestsSoFar c.args.drawn.now c.args.discards.now c.args.graph.now places 0) (sym c.new-places.ensures) (rests_init c.args.drawn.now c.args.discards.now c.args.graph.now);
 }
 
 pub places_of-best_discarded-rest-requires-clause-best : goal.places_of-best_discarded-rest-requires-clause-best
@@ -197,7 +197,7 @@ places_of-loop-at-preserved g t c =
       within = λ group inside come.
           c.in_ok-place-in-Some.ensures.within group (within_drawn group drawn rest c.args.graph.now before (ap (λ (p : ShapeParts). p.melds) rest_is) (ap (λ (p : ShapeParts). p.seen) rest_is) inside (so_far.within group inside come))
           (rest_comes group drawn rest c.in-Some.discard.kind rest_is (best_at drawn c.args.discards.now c.loop-at.at c.in-Some.discard c.requires.discards (sym c.in-Some.is ∙ c.short_at.ensures)) come);
-      so_far = rests_step drawn c.args.discards.now before after so_far.grows.whole grown c.loop-at.at c.loop-at.places.items c.keep_place.new.places.items so_far.so_far c.in-Some.discard (sym c.in-Some.is ∙ c.short_at.ensures) rest rest_is c.in_ok-place-in-Some.place c.in_ok-place-in-Some.ensures.place c.in_ok-keep_place-in-Some.ensures;
+      so_far = rests_step drawn c.args.discards.now before after so_far.grows.whole grown c.loop-at.at (places_in c.loop-at.places) (places_in c.push.new.self) so_far.so_far c.in-Some.discard (sym c.in-Some.is ∙ c.short_at.ensures) rest rest_is c.in_ok-place-in-Some.place c.in_ok-place-in-Some.ensures.place c.push.ensures;
     }
 
 pub places_of-returns-in_err-place-in-Some-clause-many : goal.places_of-returns-in_err-place-in-Some-clause-many
@@ -208,7 +208,7 @@ places_of-returns-in_err-place-in-Some-clause-many g t c = λ group inside come.
     let so_far = c.loop-at.invariant in
     let within = within_drawn group drawn rest c.args.graph.now c.loop-at.graph (ap (λ (p : ShapeParts). p.melds) rest_is) (ap (λ (p : ShapeParts). p.seen) rest_is) inside (so_far.within group inside come) in
     let comes = rest_comes group drawn rest c.in-Some.discard.kind rest_is (best_at drawn c.args.discards.now c.loop-at.at c.in-Some.discard c.requires.discards (sym c.in-Some.is ∙ c.short_at.ensures)) come in
-    too_many_then c.in_err-place-in-Some.field-0.0 c.from_residual.result c.from_residual.ensures.1 (more_as c.args.graph.now.most_hands c.loop-at.graph.most_hands group so_far.grows.most) (c.in_err-place-in-Some.ensures.many group within comes))
+    on_err c.from_residual.result (more_as c.args.graph.now.most_hands c.loop-at.graph.most_hands group so_far.grows.most (c.in_err-place-in-Some.ensures.many group within comes)))
 
 pub places_of-returns-clause-left : goal.places_of-returns-clause-left
-places_of-returns-clause-left g t c = rests_end c.args.drawn.now c.args.discards.now c.loop-at.graph c.loop-at.places.items c.loop-at.at (omega (arith, c.loop-at-test.false, c.len-at-end.ensures.value)) c.loop-at.invariant.so_far
+places_of-returns-clause-left g t c = rests_end c.args.drawn.now c.args.discards.now c.loop-at.graph (places_in c.loop-at.places) c.loop-at.at (omega (arith, c.loop-at-test.false, c.len-at-end.ensures.value)) c.loop-at.invariant.so_far

@@ -1,6 +1,6 @@
 use Rattle.std.proofs.Common.{◌≡◌, ◌+◌, ◌*◌, All}
 use Rattle.riichi_shape.specs.EveryWinning.{distance_of}
-use Rattle.riichi_chances.specs.Graph.{Grows}
+use Rattle.riichi_chances.specs.Graph.{Grows, draws_in, places_in}
 use Rattle.riichi_chances.specs.Reachable.{HandGroup, IsWithin, MayCome, RestsMayCome}
 use Rattle.riichi_chances.proofs.BuildingLemmas.{DrawsSoFar, RestsSoFar}
 use Rattle.riichi_chances.proofs.building.+building.Given as goal
@@ -26,8 +26,8 @@ abbrev pub invariant-draws_of-loop-number : goal.invariant-draws_of-loop-number
 invariant-draws_of-loop-number g l = record {
   stays : l.source ≡ l.fn.source;
   grows : Grows l.asked l.fn.graph l.graph;
-  within : (group : HandGroup) → IsWithin group l.asked l.fn.graph → MayCome group l.asked.tiles → All (MayCome group) l.graph.hands.keys;
-  so_far : DrawsSoFar l.asked l.copies l.graph l.draws.items l.number;
+  within : (group : HandGroup) → IsWithin group l.asked l.fn.graph → MayCome group l.asked.tiles → All (MayCome group) l.graph.hands;
+  so_far : DrawsSoFar l.asked l.copies l.graph (draws_in l.draws) l.number;
 }
 
 -- the places so far, and the discards that are left
@@ -35,6 +35,6 @@ abbrev pub invariant-places_of-loop-at : goal.invariant-places_of-loop-at
 invariant-places_of-loop-at g l = record {
   stays : l.source ≡ l.fn.source;
   grows : Grows l.drawn l.fn.graph l.graph;
-  within : (group : HandGroup) → IsWithin group l.drawn l.fn.graph → RestsMayCome l.drawn group → All (MayCome group) l.graph.hands.keys;
-  so_far : RestsSoFar l.drawn l.discards l.graph l.places.items l.at;
+  within : (group : HandGroup) → IsWithin group l.drawn l.fn.graph → RestsMayCome l.drawn group → All (MayCome group) l.graph.hands;
+  so_far : RestsSoFar l.drawn l.discards l.graph (places_in l.places) l.at;
 }

@@ -2,7 +2,7 @@ use Rattle.std.proofs.Common.{◌≡◌, ℕ, ◌<◌, ◌≤◌, length}
 use Rattle.std.specs.Prelude.{slice_index, slice_index_or}
 use Rattle.riichi_chances.specs.Chances.{IsTold}
 use Rattle.riichi_chances.specs.declared.chances.Chances.{Chances}
-use Rattle.riichi_chances.specs.declared.rows.Rows.{Rows}
+use Rattle.riichi_chances.specs.Rows.{Rows}
 use Rattle.riichi_chances.proofs.chances.tell_each.Given as goal
 
 -- the first are told, and the others stay

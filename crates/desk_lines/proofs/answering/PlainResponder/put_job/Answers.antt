@@ -13,7 +13,7 @@ returns-in-Win g c =
 pub returns-in-Waits : goal.returns-in-Waits
 returns-in-Waits g c =
     let before = c.args.outbox.now.bytes.items in
-    rw c.in-Waits.is (_, sym (of_waits c.in-Waits.hand), c.put_waits.ensures.told ∙ ap (λ kinds. before ++ (waits_text kinds ++ 10 ∷ [])) c.waits.ensures.value)
+    rw c.in-Waits.is (_, sym (of_waits c.in-Waits.hand), c.put_waits.ensures.told ∙ ap (λ kinds. before ++ (waits_text kinds ++ 10 ∷ [])) c.waits_with.ensures.value)
 
 pub returns-in-Shape : goal.returns-in-Shape
 returns-in-Shape g c =

@@ -20,6 +20,7 @@ pub loop-line-init : goal.loop-line-init
 loop-line-init c =
     let all = lines c.args.text.now in
     record {
+      manner = c.new-questions.ensures;
       answers = sym (ap (λ (front : List ℕ). front ++ text_of (question_answers c.args.manner c.args.number all)) c.new-answers.ensures.items);
       report = none-both (report_of (question_kinds c.args.number all));
       numbers = omega arith;
@@ -41,10 +42,11 @@ loop-line-preserved c =
     let more = text_of (question_answers manner (number + 1) others) in
     let kinds = question_kinds (number + 1) others in
     let put : c.as_slice.result.now ≡ text =
-    c.as_slice.ensures ∙ c.in_ok-kind.ensures.put ∙ ap (λ (b : List ℕ). b ++ with_line_feed (question_answer c.new-questions.result.manner number line)) c.clear.ensures
-    ∙ ap (λ (m : StudiesManner). with_line_feed (question_answer m number line)) c.new-questions.ensures in
+    c.as_slice.ensures ∙ c.in_ok-kind.ensures.put ∙ ap (λ (b : List ℕ). b ++ with_line_feed (question_answer c.loop-line.questions.manner number line)) c.clear.ensures
+    ∙ ap (λ (m : StudiesManner). with_line_feed (question_answer m number line)) so_far.manner in
     let counted = c.counted-report.ensures in
     record {
+      manner = c.in_ok-kind.ensures.manner ∙ so_far.manner;
       answers =
           so_far.answers ∙ ap (λ (ls : List (List ℕ)). before ++ text_of (question_answers manner number ls)) cut ∙ ap (λ (t : List ℕ). before ++ t) (text_first manner number line others)
           ∙ sym (append_assoc before text more) ∙ ap (λ (front : List ℕ). front ++ more) (sym (c.in_ok-extend_from_slice.ensures.items ∙ ap (λ (t : List ℕ). before ++ t) put));

@@ -9,5 +9,5 @@ returns-clause-told g c =
       answer = question_answer now.manner c.args.number c.args.line.now;
       put = taken.ensures.put;
       tells_more = λ first lines told report next counted as_this tells.
-          tells_more first now c.args.number c.args.line.now taken.kind lines told report next taken.ensures.kind counted as_this tells;
+          tells_more first now c.take.new.self c.args.number c.args.line.now taken.kind lines told report next taken.ensures.kind counted as_this taken.ensures.manner tells;
     }

@@ -1,0 +1,3 @@
+pub mod Completing
+pub mod RankBits
+pub mod Remainders

@@ -1,0 +1,7 @@
+use Rattle.riichi_split.specs.Marks.{MarksBelow}
+use Rattle.riichi_split.specs.SuitTiles.{AreSetsAndPair}
+use Rattle.riichi_cuts.specs.SuitCut.{Makes}
+use Rattle.riichi_cuts.proofs.suit_cut.ranks_for_pair.Given as goal
+
+abbrev pub invariant-loop-rank : goal.invariant-loop-rank
+invariant-loop-rank l = MarksBelow (Makes AreSetsAndPair l.tiles) l.rank l.ranks

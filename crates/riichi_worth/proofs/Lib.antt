@@ -1,0 +1,5 @@
+pub mod DiscardLemmas
+pub mod NumberLemmas
+pub mod PlacedLemmas
+pub mod PointLaws
+pub mod PrizeLemmas
