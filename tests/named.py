@@ -53,8 +53,9 @@ class Crate:
         form = rf"\b(?:fn|struct|enum|trait|type|const|mod) {name}\b|pub use [^;]*\b{name}\b"
         return any(re.search(form, it) for it in self.files)
 
-    def refuses(self, body: str) -> bool:
-        return (self.folder / "must-fail" / f"{body}.edit").is_file()
+    def wrong_bodies(self) -> set[str]:
+        """Those that the gate tries, and those of tests/wrong-bodies."""
+        return {it.stem for folder in ("must-fail", "wrong-bodies") for it in (self.folder / folder).glob("*.edit")}
 
 
 def calls_of(crates: dict[str, Crate], cell: str) -> list[tuple[str, list[str]]]:
@@ -105,7 +106,7 @@ def test_paths(top: Path, pages: list[Path], told: Callable[[str, object, object
     crates = {it.name: Crate(it) for it in (top / "crates").iterdir() if (it / "src").is_dir()}
     for page in pages:
         text = (top / page).read_text()
-        paths = re.findall(rf"({CRATE}/(?:src|specs|proofs|must-fail)/[\w/.-]+\.\w+)", text)
+        paths = re.findall(rf"({CRATE}/(?:src|specs|proofs|must-fail|wrong-bodies)/[\w/.-]+\.\w+)", text)
         names = re.findall(rf"({CRATE})::((?:\w+::)*\w+)", text)
         bad = [it for it in paths if not (top / "crates" / it).is_file()]
         # (the package for Rust has the name of the program's crate)
@@ -118,7 +119,8 @@ def test_names(top: Path, told: Callable[[str, object, object], None]) -> None:
     crates = {it.name: Crate(it) for it in (top / "crates").iterdir() if (it / "src").is_dir()}
     text = (top / "docs/PROOFS.md").read_text()
     told("docs/PROOFS.md has at most 200 lines", True, len(text.splitlines()) <= 200)
-    kept = {(crate, it.stem) for crate in crates for it in (crates[crate].folder / "must-fail").glob("*.edit")}
+    all_bodies = {(name, it) for name, crate in crates.items() for it in crate.wrong_bodies()}
+    forgotten = set(all_bodies)
     for line in text.splitlines():
         row = cells(line)
         if len(row) != 5 or row[0].startswith(("**", "---", "Promise")):
@@ -127,7 +129,7 @@ def test_names(top: Path, told: Callable[[str, object, object], None]) -> None:
         told(f"calls and clauses of '{row[0][:60]}'", [], lacking_clauses(crates, calls, row[2]))
         told(f"definitions of '{row[0][:60]}'", [], lacking_definitions(crates, row[3]))
         named = set(re.findall(CRATE, row[1])) & set(crates)
-        bodies = {it: [crate for crate in named if crates[crate].refuses(it)] for it in ticked(row[4])}
+        bodies = {it: [crate for crate in named if (crate, it) in all_bodies] for it in ticked(row[4])}
         told(f"wrong bodies of '{row[0][:60]}'", [], [it for it, found in bodies.items() if not found])
-        kept -= {(crate, it) for it, found in bodies.items() for crate in found}
-    told('wrong bodies that docs/PROOFS.md forgets', [], sorted(kept))
+        forgotten -= {(crate, it) for it, found in bodies.items() for crate in found}
+    told("wrong bodies that docs/PROOFS.md forgets", [], sorted(forgotten))

@@ -28,8 +28,6 @@ mod lent_cuts;
 mod place;
 mod ranks;
 mod suit_cut;
-#[cfg(test)]
-mod tests;
 mod wait_memo;
 mod waiting;
 

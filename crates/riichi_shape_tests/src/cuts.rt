@@ -1,17 +1,14 @@
-//! Suits and hands worked by hand.
-use super::*;
+//! Cuts of suits, and waits by them, worked by hand.
+use crate::facts::same;
 use arrayvec::ArrayString;
+use riichi_cuts::{
+    CutMemo, CutSource, FreshCuts, KeptCut, LentCuts, Ranks, WaitMemo, cut_of, waits_with,
+};
 use riichi_hand::HandRecord;
 use riichi_split::{MOST_WAITS, SuitTiles, push_waits, waits};
 use riichi_tiles::{Kind, KindSet, Meld, Melds, read_counts};
-use std::fmt::Debug;
 use std::process::Abort;
 use std::test::Fail;
-
-/// The two values are the same.
-fn same<T: PartialEq + Debug + Drop>(rt: &impl Abort, left: T, right: T) {
-    assert!(rt; left == right, "{left:?} is not {right:?}");
-}
 
 /// Of each suit: the pairs, and as bits the ranks for sets and those for sets and a pair.
 #[test]
