@@ -58,6 +58,18 @@ class Crate:
         return {it.stem for folder in ("must-fail", "wrong-bodies") for it in (self.folder / folder).glob("*.edit")}
 
 
+def turns(crate: Crate, edit: Path) -> bool:
+    """Whether each text that a wrong body turns stands in its file once, where those before it are turned."""
+    text = old = ""
+    for word, line in re.findall(r"^(file|old|new): ?(.*)$", edit.read_text(), re.M):
+        if word == "file":
+            text = (crate.folder / line).read_text()
+        elif word == "old" and text.count(line) != 1:
+            return False
+        old, text = (line, text) if word == "old" else ("", text.replace(old, line) if old else text)
+    return True
+
+
 def calls_of(crates: dict[str, Crate], cell: str) -> list[tuple[str, list[str]]]:
     """The crate and the path of each call: a name without a crate is of that before it."""
     crate, found = "", []
@@ -133,3 +145,5 @@ def test_names(top: Path, told: Callable[[str, object, object], None]) -> None:
         told(f"wrong bodies of '{row[0][:60]}'", [], [it for it, found in bodies.items() if not found])
         forgotten -= {(crate, it) for it, found in bodies.items() for crate in found}
     told("wrong bodies that docs/PROOFS.md forgets", [], sorted(forgotten))
+    edits = [(crate, it) for crate in crates.values() for it in sorted(crate.folder.glob("*/*.edit"))]
+    told("wrong bodies that turn nothing", [], [str(it) for crate, it in edits if not turns(crate, it)])
