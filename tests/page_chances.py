@@ -1,5 +1,5 @@
-"""Chances by turn, below the answer to a shape: the table, the curves, what ends the counting, how it looks, and how long a question takes in
-each browser. What hands are worth is written here by hand, from docs/CHANCES.md, or said by the command `study`."""
+"""Chances and points by turn, below the answer to a shape: the table, the curves, what ends the counting, how it looks, and how long a question
+takes in each browser. What hands are worth is written here by hand, from docs/CHANCES.md, or said by the command `study`."""
 
 from __future__ import annotations
 
@@ -91,6 +91,31 @@ def test_discard_chances(browser: Browser) -> None:
     choose(browser, "goal", "win")
 
 
+def test_worths(browser: Browser) -> None:
+    """The points that a hand brings: eight of 123 tiles win a mangan."""
+    fresh(browser)
+    type_line(browser, "shape 123456789m1134p")
+    browser.tap(SUMMARY)
+    counted(browser)
+    choose(browser, "goal", "worth")
+    table = counted(browser)
+    told("points of a dealer's hand by one draw", ["780"], table["1"])
+    told("points have no upper end", sorted(map(str, range(1, 19))), sorted(table))
+    choose(browser, "worth-seat", "S")
+    table = counted(browser)
+    told("points of another's", ["520"], table["1"])
+    told("what it brings", f"By 18 draws this play brings {table['18'][0]} points on the average.", text(browser, "#answer .chances [role=status]"))
+    type_line(browser, FOURTEEN)
+    table = counted(browser)
+    (answer,) = [json.loads(it) for it in said_of("study", "--json", lines=[f"worth {FOURTEEN.split()[1]} turns=17 seat=S round=E"])]
+    worths = {f"{int(float(it['worth']) + 0.5):,}".replace(",", "\u202f") for it in answer["discards"]}
+    told("points after discards", worths, {it.rstrip("*") for it in table["17"]})
+    told("the most is marked", 1, sum(it.endswith("*") for it in table["17"]))
+    told("curves of points", len(worths), browser.run("document.querySelectorAll('#answer .curve').length"))
+    choose(browser, "goal", "win")
+    told("chances again", ["46.7*", "42.2"], counted(browser)["17"])
+
+
 def test_end_of_counting(browser: Browser) -> None:
     """The worker ends where the hand changes, where the part is closed, and with the last answer."""
     fresh(browser)
@@ -118,9 +143,10 @@ def test_looks_of_chances(browser: Browser, folder: Path) -> None:
         browser.size(width, height, touch=width < 700)
         browser.scheme(scheme)
         fresh(browser)
-        for name, line in (("goals", THIRTEEN), ("discards", WIDE)):
+        for name, line, goal in (("goals", THIRTEEN, "win"), ("discards", WIDE, "win"), ("points", WIDE, "worth")):
             type_line(browser, line)
             browser.run(f"document.querySelector('#answer .chances').open || document.querySelector('{SUMMARY}').click()")
+            browser.run(f"document.querySelector('#answer [name=goal][value={goal}]').click()")
             counted(browser)
             about = f"chances-{name} {width}x{height} {scheme}"
             sound(browser, about, "pale", "faint", "tooWide", "cut", "broken", *(["small"] if width < 700 else []))
@@ -130,8 +156,10 @@ def test_looks_of_chances(browser: Browser, folder: Path) -> None:
     browser.scheme("light")
     for names, column in COLUMNS.items():
         set_choice(browser, "names", names)
-        counted(browser)
-        look_at_words(browser, f"chances at 320, {names}", column)
+        for goal in ("worth", "win"):
+            browser.run(f"document.querySelector('#answer [name=goal][value={goal}]').click()")
+            counted(browser)
+            look_at_words(browser, f"chances at 320, {goal}, {names}", column)
     told("chances at 320 have all of the width", 320, browser.run("document.getElementById('answer').offsetWidth"))
     set_choice(browser, "names", "english")
     browser.zoom(1280, 800)

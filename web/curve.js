@@ -1,4 +1,4 @@
-// The picture of chances by turn: a curve for each of them, which has its sign at its end, so that nothing is told by colour alone.
+// The picture of what is told by turn: a curve for each hand or discard, which has its sign at its end, so that nothing is told by colour alone.
 
 import { make } from "./elements.js";
 import { range } from "./tiles.js";
@@ -9,8 +9,6 @@ const SVG = "http://www.w3.org/2000/svg";
 const [WIDTH, HEIGHT, LEFT, RIGHT, TOP, BOTTOM] = [320, 230, 40, 254, 12, 204];
 // Where the signs begin.
 const SIGNS = RIGHT + 10;
-// The greatest percentage of the scale is the least of these that is enough.
-const SCALES = [2, 4, 6, 10, 20, 30, 40, 50, 60, 80, 100];
 // A row of discards on the table.
 const ROW = 6;
 // The signs of two curves are so far apart, and no more of them have room.
@@ -39,10 +37,10 @@ function wordAt([x, y], className, ...children) {
 }
 
 // None, a half and all of the scale, and the numbers of some turns.
-function axisWords(top, last, placeOf) {
+function axisWords(top, last, placeOf, words) {
   const turns = [1, ...range(2, last - 2).filter((turn) => turn % ROW === 0), last];
   const below = (turn) => wordAt([placeOf(turn, 0)[0], BOTTOM + 14], "turn", String(turn));
-  const beside = (percentage) => wordAt([LEFT - 5, placeOf(1, percentage / 100)[1]], "height", `${percentage}\u00a0%`);
+  const beside = (value) => wordAt([LEFT - 5, placeOf(1, value)[1]], "height", words(value));
   return [...turns.map(below), ...[0, top / 2, top].map(beside), wordAt([WIDTH, BOTTOM + 14], "unit", phrase("draws"))];
 }
 
@@ -72,19 +70,20 @@ function signAt(height, sign) {
   return wordAt([SIGNS, height], "sign", ...sign.slice(0, isLong ? MOST_TILES - 1 : MOST_TILES), ...more);
 }
 
-// Each curve has its chances by turn, from the first on as far as they are known, its chance by the last turn, and its sign: elements or
-// words. The curves stand in the order of their last chances, the greatest first.
-export function curvePicture(curves, last, name) {
-  const most = 100 * Math.max(...curves.map((curve) => curve.last));
-  const top = SCALES.find((scale) => scale >= most);
-  const placeOf = (turn, chance) => [LEFT + ((RIGHT - LEFT) * (turn - 1)) / Math.max(1, last - 1), BOTTOM - ((BOTTOM - TOP) * 100 * chance) / top];
+// Each curve has its values by turn, from the first on as far as they are known, its value by the last turn, and its sign: elements or
+// words. The curves stand in the order of their last values, the greatest first. The scale has the values up to which it may go, and says
+// one in words.
+export function curvePicture(curves, last, name, { tops, words }) {
+  const most = Math.max(...curves.map((curve) => curve.last));
+  const top = tops.find((it) => it >= most);
+  const placeOf = (turn, value) => [LEFT + ((RIGHT - LEFT) * (turn - 1)) / Math.max(1, last - 1), BOTTOM - ((BOTTOM - TOP) * value) / top];
   const ends = curves.map((curve) => placeOf(last, curve.last));
   const heights = apart(ends.slice(0, MOST_SIGNS).map(([, y]) => y));
-  const grid = [0, top / 200, top / 100].map((share) => line("grid", [placeOf(1, share), placeOf(last, share)]));
+  const grid = [0, top / 2, top].map((value) => line("grid", [placeOf(1, value), placeOf(last, value)]));
   const leads = heights.map((height, at) => line("lead", [ends[at], [SIGNS - 2, height]]));
-  const lines = curves.map(({ chances }, at) => line(`curve curve-${at && 1 + ((at - 1) % DASHES)}`, chances.map((chance, before) => placeOf(before + 1, chance))));
+  const lines = curves.map(({ values }, at) => line(`curve curve-${at && 1 + ((at - 1) % DASHES)}`, values.map((value, before) => placeOf(before + 1, value))));
   const dots = ends.map(([x, y]) => drawn("circle", { cx: x, cy: y, r: 2.5 }));
   const picture = drawn("svg", { viewBox: `0 0 ${WIDTH} ${HEIGHT}`, "aria-hidden": "true" }, ...grid, ...leads, ...lines.reverse(), ...dots);
   const signs = heights.map((height, at) => signAt(height, curves[at].sign));
-  return make("div", { class: "picture", role: "img", "aria-label": name }, picture, ...axisWords(top, last, placeOf), ...signs);
+  return make("div", { class: "picture", role: "img", "aria-label": name }, picture, ...axisWords(top, last, placeOf, words), ...signs);
 }

@@ -10,6 +10,7 @@ export const state = {
   isFurther: false, // whether what stands beyond the next step is shown
   areChances: false, // whether chances by turn are shown
   goal: "win", // of which goal they are shown
+  stakes: { seat: "E", round: "E" }, // by which winds the points of a win are told
   isRed: false, // whether the next five is a red one
   past: [], // what stood before each change
   handId: 0, // the number of this hand in the list of hands; 0 while it isn't there

@@ -207,6 +207,7 @@ export const PAGE_WORDS = {
   "chances": ["Chances by turn", "巡目ごとの確率", "Chancen Zug um Zug", "Chances tour par tour", "Szanse z tury na turę"],
   "goal": ["What is reached", "目標", "Was erreicht wird", "Ce qui est atteint", "Co jest osiągane"],
   "goal win": ["Win", "和了", "Sieg", "Gain", "Wygrana"],
+  "goal worth": ["Points", "点数", "Punkte", "Points", "Punkty"],
   "draws": ["Draws", "巡目", "Züge", "Tours", "Tury"],
   "at most": ["at most", "上限", "höchstens", "au plus", "najwyżej"],
   "counted so far": [
@@ -244,6 +245,20 @@ export const PAGE_WORDS = {
     "atteint après chaque défausse en tant de tours, en pour cent",
     "osiągane po każdym odrzucie w tylu turach, w procentach",
   ],
+  "worth caption": [
+    "Points on the average by so many draws",
+    "その巡目までの平均の点数",
+    "Punkte im Mittel nach so vielen Zügen",
+    "Points en moyenne en tant de tours",
+    "Średnia punktów w tylu turach",
+  ],
+  "worths caption": [
+    "on the average after each discard, by so many draws",
+    "打牌ごとの、その巡目までの平均",
+    "im Mittel nach jedem Abwurf und so vielen Zügen",
+    "en moyenne après chaque défausse, en tant de tours",
+    "średnio po każdym odrzucie, w tylu turach",
+  ],
   "by draws": [
     "By {number} draws this play reaches: {what}.",
     "{number}巡目までにこの打ち方で届く割合：{what}",
@@ -258,6 +273,20 @@ export const PAGE_WORDS = {
     "En {number} tours, {tiles} atteint le plus : {chance}\u00a0%.",
     "W {number} turach najwięcej osiąga {tiles}: {chance}\u00a0%.",
   ],
+  "worth by draws": [
+    "By {number} draws this play brings {points} points on the average.",
+    "{number}巡目までにこの打ち方で平均{points}点。",
+    "In {number} Zügen bringt dieses Spiel im Mittel {points} Punkte.",
+    "En {number} tours, ce jeu rapporte {points} points en moyenne.",
+    "W {number} turach ta gra przynosi średnio {points} pkt.",
+  ],
+  "best worth by draws": [
+    "By {number} draws {tiles} brings most: {points} points on the average.",
+    "{number}巡目までなら打{tiles}が最も高く平均{points}点。",
+    "In {number} Zügen bringt {tiles} am meisten: im Mittel {points} Punkte.",
+    "En {number} tours, {tiles} rapporte le plus : {points} points en moyenne.",
+    "W {number} turach najwięcej przynosi {tiles}: średnio {points} pkt.",
+  ],
   "surely over": [
     "After {tiles} no such play wins as often.",
     "打{tiles}では、この種のどの打ち方もそこまで和了できません。",
@@ -271,6 +300,13 @@ export const PAGE_WORDS = {
     "Gezählt allein am Tisch, über alle Züge ungesehener Steine: was die Hand näher bringt, bleibt, und von den besten Abwürfen folgt der, der am meisten erreicht. Ohne Rufe, und ohne nach einem Yaku zu fragen. Höchstens: was bis zum letzten Zug kein solches Spiel übertrifft.",
     "Compté seul à la table, sur tous les tirages de tuiles non vues : ce qui avance la main est gardé, et des meilleures défausses on fait celle qui atteint le plus. Sans appels, et sans demander de yaku. Au plus : ce qu’aucun jeu de ce genre ne dépasse au dernier tour.",
     "Liczone samotnie przy stole, po wszystkich dobraniach niewidzianych kamieni: to, co przybliża rękę, zostaje, a z najlepszych odrzutów wybiera się ten, który osiąga najwięcej. Bez zawołań i bez pytania o yaku. Najwyżej: to, czego do ostatniej tury nie przekracza żadna taka gra.",
+  ],
+  "worth help": [
+    "Counted as the chances are, over all draws of unseen tiles: what a self-draw then gains in the best reading, by these winds and the rules of the page, with riichi where nothing is called; 0 without a yaku. No dora, and nobody else plays. Of the best discards the one is made that brings most.",
+    "確率と同じ数え方で、見えていない牌のすべてのツモについて、その風と設定のルールでツモ和了の点数を最も高い読みで数えたもの。門前なら立直とし、役がなければ0点。ドラと他家は考えない。最善の打牌のうち最も点数になるものを切る。",
+    "Gezählt wie die Chancen, über alle Züge ungesehener Steine: was ein Tsumo dann in der besten Lesart einbringt, mit diesen Winden und den Regeln der Seite, mit Riichi, wo nichts gerufen ist; 0 ohne Yaku. Ohne Dora, und niemand sonst spielt. Von den besten Abwürfen folgt der, der am meisten bringt.",
+    "Compté comme les chances, sur tous les tirages de tuiles non vues : ce qu’un tsumo rapporte alors dans la meilleure lecture, avec ces vents et les règles de la page, avec riichi si rien n’est appelé ; 0 sans yaku. Sans dora, et personne d’autre ne joue. Des meilleures défausses on fait celle qui rapporte le plus.",
+    "Liczone jak szanse, po wszystkich dobraniach niewidzianych kamieni: ile daje wtedy tsumo w najlepszym odczycie, przy tych wiatrach i zasadach strony, z riichi, gdy nic nie zawołano; 0 bez yaku. Bez dora, i nikt inny nie gra. Z najlepszych odrzutów wybiera się ten, który przynosi najwięcej.",
   ],
   "thrown": ["Thrown by", "捨てた人", "Abwurf von", "Défausse de", "Odrzut gracza"],
   "thrown help": [
