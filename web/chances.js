@@ -15,7 +15,7 @@ import { colon, listed, phrase, within } from "./words.js";
 const MOST_SHANTEN = 3;
 // Nobody draws oftener in a deal without calls.
 const MOST_DRAWS = 18;
-const WINDS = ["E", "S", "W", "N"];
+const WIND_LETTERS = ["E", "S", "W", "N"];
 // A screen on which the answer stands below the tiles while chances are shown; chances.css has the same.
 const isBelow = matchMedia("(max-width: 47.99rem), (max-height: 30rem)");
 
@@ -185,7 +185,7 @@ function stakesChoice(ask) {
       state.stakes[key] = wind;
       ask();
     };
-    const about = { name: `worth-${key}`, look: "named", says: named(key), values: WINDS, chosen: state.stakes[key] };
+    const about = { name: `worth-${key}`, look: "named", says: named(key), values: WIND_LETTERS, chosen: state.stakes[key] };
     const winds = choiceOf(about, (wind) => named(`${wind} short`), choose);
     winds.prepend(make("legend", {}, named(key)));
     return winds;
