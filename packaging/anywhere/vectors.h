@@ -171,6 +171,21 @@ WIDER(i16x8, i8x16, u8, s8, 8)
 WIDER(i32x4, i16x8, u16, s16, 4)
 WIDER(i64x2, i32x4, u32, s32, 2)
 
+/* The lanes of two vectors, each half as wide: a number that has no room there is the nearest one that has. */
+#define NARROWER(name, shape, wide, count, least, most) \
+    static inline v128 name(v128 x, v128 y) { \
+        v128 told = NO_VECTOR; \
+        for (u32 at = 0; at < 2 * count; at++) { \
+            s32 lane = at < count ? LANE(wide, x, at) : LANE(wide, y, at - count); \
+            told = shape##_replace_lane(told, (u32)(lane < least ? least : lane > most ? most : lane), at); \
+        } \
+        return told; \
+    }
+NARROWER(i16x8_narrow_i32x4_u, i16x8, s32, 4, 0, 65535)
+NARROWER(i16x8_narrow_i32x4_s, i16x8, s32, 4, -32768, 32767)
+NARROWER(i8x16_narrow_i16x8_u, i8x16, s16, 8, 0, MOST)
+NARROWER(i8x16_narrow_i16x8_s, i8x16, s16, 8, -128, 127)
+
 /* Lanes from memory, each a number of that width. */
 #define LOAD_LANE(bits, shape) \
     static inline v128 v128_load##bits##_lane(const wasm_rt_memory_t *memory, u32 place, v128 x, u32 offset, u32 at) { \
