@@ -31,8 +31,10 @@
 #define WASM_RT_MEMCHECK_SIGNAL_HANDLER 1 /* wasm2c: no look at an access */
 #define WASM_RT_USE_STACK_DEPTH_COUNT 0
 
-/* Behind the module's own pages lie those for what a call is given, and those for its answer. */
-enum { PAGE = 65536, PAGES = @pages@, PAGES_GIVEN = 4, PAGES_TOLD = 4, SPACE = (PAGES + PAGES_GIVEN + PAGES_TOLD) * PAGE };
+/* Behind the module's own pages lie those for what a call is given, those for its answer, and those for the hands of a question: 2,800
+ * bytes a place. */
+enum { PAGE = 65536, PAGES = @pages@, PAGES_GIVEN = 4, PAGES_TOLD = 4, MOST_PLACES = 512, PAGES_LENT = MOST_PLACES * 2800 / PAGE + 1 };
+enum { SPACE = (PAGES + PAGES_GIVEN + PAGES_TOLD + PAGES_LENT) * PAGE };
 
 typedef struct { uint8_t data[SPACE]; uint32_t size; } wasm_rt_memory_t;
 
