@@ -44,13 +44,29 @@ function choiceWords(goal, { discards, shanten }) {
   return goal === "win" && !discards && shanten > 0 ? listed([goalWords("ready"), goalWords("win")]) : goalWords(goal);
 }
 
-// The questions: that of the last draw first, since it says how far the curves rise.
-function chanceLines(line, { discards }, goal) {
-  const last = discards ? MOST_DRAWS - 1 : MOST_DRAWS;
-  const rest = line.trim().replace(/^shape/, goal === "worth" ? "worth" : "chances");
+// The questions. One of chances tells all draws up to the last; of points each number of draws is asked, the last first, since it says how
+// far the curves rise.
+function questionLines(line, last, goal) {
+  const hand = line.trim().replace(/^shape/, goal === "worth" ? "worth" : "chances");
+  if (goal !== "worth") return [`${hand} turns=${last}`];
   const { seat, round } = state.stakes;
-  const stakes = goal === "worth" ? ` seat=${seat} round=${round} rules=${rulesText(state.rules)}` : "";
-  return [last, ...range(1, last - 1)].map((turns) => `${rest} turns=${turns}${stakes}`);
+  const stakes = `seat=${seat} round=${round} rules=${rulesText(state.rules)}`;
+  return [last, ...range(1, last - 1)].map((turns) => `${hand} turns=${turns} ${stakes}`);
+}
+
+// What an answer tells of each number of draws. The upper ends are those of the last.
+function byDraws(answer) {
+  if (answer.answer !== "chances") return [answer];
+  const partsAt = (turns, { by_turn: rows }) => {
+    const { ready, win, draws } = rows[turns - 1];
+    return { ready: { part: ready, whole: draws }, win: { part: win, whole: draws } };
+  };
+  const toldAt = (turns, one) => ({ ...one, ...partsAt(turns, one) });
+  const answerAt = (turns) => {
+    const { discards } = answer;
+    return { ...answer, turns, ...(discards ? { discards: discards.map((one) => toldAt(turns, one)) } : partsAt(turns, answer)) };
+  };
+  return range(1, answer.turns).map(answerAt);
 }
 
 // Of thirteen tiles a column for each goal that isn't reached yet, or one for the points.
@@ -146,6 +162,7 @@ function progressShown() {
   const tell = (number, most) => {
     words.textContent = phrase("counted so far", { number, most });
     Object.assign(bar, { max: most, value: number });
+    if (number === 0) bar.removeAttribute("value");
   };
   return { element: make("div", { class: "counting", "aria-live": "off" }, words, bar), tell };
 }
@@ -158,7 +175,7 @@ function captionOf(columns, goal) {
 
 // What is shown of the answers so far: the curves, the table, and once all is told what is reached by the last draw.
 function chancesShown(told, most, isDone, goal) {
-  const counted = told.filter((it) => it?.counted).sort((one, other) => one.turns - other.turns);
+  const counted = [...told].sort((one, other) => one.turns - other.turns);
   if (counted.length === 0) return { words: isDone ? [phrase("not counted")] : [], parts: [] };
   const last = isDone ? counted.at(-1).turns : most;
   const columns = counted[0].discards ? discardColumns(counted, goal) : goalColumns(counted[0].shanten, goal);
@@ -194,10 +211,11 @@ function stakesChoice(ask) {
 }
 
 // Puts what is told into the part.
-function showChances(part, { told, hasFailed }, most, goal) {
-  const isDone = hasFailed || told.length === most;
-  const { words, parts } = chancesShown(hasFailed ? [] : told, most, isDone, goal);
-  part.progress.tell(told.length, most);
+function showChances(part, { lines, told, hasFailed }, most, goal) {
+  const isDone = hasFailed || told.length === lines.length;
+  const counted = hasFailed ? [] : told.filter((it) => it?.counted).flatMap(byDraws);
+  const { words, parts } = chancesShown(counted, most, isDone, goal);
+  part.progress.tell(counted.length, most);
   part.progress.element.hidden = isDone;
   part.said.replaceChildren(...words);
   part.body.setAttribute("aria-busy", String(!isDone));
@@ -217,10 +235,10 @@ export function chancesParts(answer, { line }) {
   const help = make("p", { class: "further-help" });
   const ask = () => {
     const goal = shownOf(goals);
-    const lines = chanceLines(line, answer, goal);
+    const last = answer.discards ? MOST_DRAWS - 1 : MOST_DRAWS;
     stakes.hidden = goal !== "worth";
     help.textContent = phrase(goal === "worth" ? "worth help" : "chances help");
-    askFor(element, lines, (told) => showChances(part, told, lines.length, goal));
+    askFor(element, questionLines(line, last, goal), (told) => showChances(part, told, last, goal));
   };
   const stakes = stakesChoice(ask);
   const choose = (goal) => {

@@ -1,31 +1,31 @@
 -- What is told of chances that were found is what the question asks.
-use Rattle.std.proofs.Common.{◌≡◌, ℕ, ℤ, ◌+◌, ◌<◌, ◌≤◌, Bool, true, false, List, [], ◌++◌, get_or, length, map, take, refl, sym, subst, ap, ◌∙◌, append_assoc, arith}
+use Rattle.std.proofs.Common.{◌≡◌, ℕ, zero, suc, ℤ, ◌+◌, ◌<◌, ◌≤◌, Bool, true, false, List, [], ◌∷◌, ◌++◌, get_or, length, map, take, refl, sym, subst, ap, ◌∙◌, append_assoc, arith}
 use Rattle.std.proofs.lemmas.List.{append-nil, get_or-map, length-map, take-map}
 use Rattle.std.proofs.lemmas.Bool.{leb-true}
-use Rattle.std.specs.Prelude.{◌&&◌, ◌||◌, Option, codes, if◌then◌else◌, nat_le}
+use Rattle.std.specs.Prelude.{◌&&◌, ◌||◌, All, Option, codes, if◌then◌else◌, nat_le, nat_lt}
 use Rattle.std.specs.List.{flat_map}
 use Rattle.riichi_hand.specs.Hand.{is_thirteen}
 use Rattle.riichi_hand.specs.HandParts.{ShapeParts}
 use Rattle.riichi_shape.specs.Discards.{discards_of}
 use Rattle.riichi_shape.specs.EveryWinning.{distance_of, shanten_of}
-use Rattle.riichi_shape.specs.declared.discard.Discard.{Discard}
 use Rattle.riichi_chances.specs.Draws.{unseen_of}
 use Rattle.riichi_chances.specs.Graph.{discard_kinds}
-use Rattle.riichi_chances.specs.Odds.{after_discard, best_odds, odds_after, odds_of}
+use Rattle.riichi_chances.specs.Odds.{ArePartsOfAll, after_discard, best_odds, each_odds_at, odds_after, odds_at, odds_of}
+use Rattle.riichi_chances.specs.declared.discards.DiscardChances.{DiscardChances}
 use Rattle.riichi_chances.specs.declared.odds.DiscardOdds.{DiscardOdds}
 use Rattle.riichi_chances.specs.declared.odds.Odds.{Odds}
-use Rattle.riichi_chances_text.specs.OddsTexts.{odds_members, odds_text}
+use Rattle.riichi_chances_text.specs.OddsTexts.{by_turn_member, comma_if, each_turn, odds_members, odds_text, turn_json}
 use Rattle.riichi_study.specs.ChanceTexts.{after_reason, after_text, are_counted, chances_reasons, chances_text, counted_text, front_text, hand_odds_reason, uncounted_reason}
 use Rattle.riichi_study.specs.Findings.{Chances}
-use Rattle.desk_json.specs.Parts.{quoted_kind}
+use Rattle.desk_json.specs.Parts.{listed, quoted_kind}
 use Rattle.desk_study.specs.Answers.{listed_next, something_there, told_in}
-use Rattle.desk_study.specs.ChanceObjects.{beaten_kind, chances_members, chances_name, counted_json, each_json, front_json}
-use Rattle.desk_study.specs.Found.{AreFound, IsFound, each_of, end_json, first_json, first_told, found_members, found_reasons, found_text, found_told}
+use Rattle.desk_study.specs.ChanceObjects.{after_json, beaten_json, beaten_kind, best_json, chances_members, chances_name, counted_json, discard_json, front_json, hand_json}
+use Rattle.desk_study.specs.Found.{AreFound, AreParts, ArePartsOfEach, IsFound, each_in, each_json, each_of, end_json, first_json, first_told, found_members, found_reasons, found_text, found_told, one_json}
 use Rattle.desk_study.specs.declared.form.StudiesForm.{StudiesForm}
 use Rattle.desk_study.specs.declared.form.StudiesForm.TheVariants.{Answers, Explained, Objects}
 use Rattle.desk_study.specs.declared.found.FoundChances.{FoundChances}
-use Rattle.desk_study.specs.declared.found.FoundOdds.{FoundOdds}
-use Rattle.desk_study.specs.declared.found.FoundOdds.TheVariants.{Uncounted, Hand, Discards}
+use Rattle.desk_study.specs.declared.found.FoundByTurn.{FoundByTurn}
+use Rattle.desk_study.specs.declared.found.FoundByTurn.TheVariants.{Uncounted, Hand, Discards}
 use Rattle.desk_study.proofs.ListedLemmas.{IsListed, next_listed}
 
 -- ---- where chances are counted
@@ -38,13 +38,6 @@ and_right false b e = absurd (cc)
 pub counted_few : (parts : ShapeParts) (turns : ℕ) → are_counted parts turns ≡ true → turns ≤ unseen_of parts
 counted_few parts turns e = leb-true turns (unseen_of parts) (and_right (nat_le (distance_of parts.tiles parts.melds) 4) (nat_le turns (unseen_of parts)) e)
 
--- no more discards are told than the shape has
-pub best_few : (parts : ShapeParts) (turns : ℕ) (discards : List Discard) (each : List DiscardOdds) → discards ≡ discards_of parts.tiles parts.melds parts.seen → each ≡ best_odds parts turns → length each ≡ length discards
-unfolding best_odds
-best_few parts turns discards each is odds =
-    ap length odds ∙ length-map (discard_kinds (discards_of parts.tiles parts.melds parts.seen)) (λ (kind : ℕ). after_discard kind (odds_after parts turns kind)) ∙ length-map (discards_of parts.tiles parts.melds parts.seen) (λ (discard : Discard). discard.kind)
-    ∙ sym (ap length is)
-
 -- ---- a line, and lines in words
 
 module _ (hand : Odds → List ℕ) (each_told : List DiscardOdds → List ℕ) (nothing : each_told [] ≡ []) (none : List ℕ) (parts : ShapeParts) (turns : ℕ) where
@@ -54,10 +47,62 @@ module _ (hand : Odds → List ℕ) (each_told : List DiscardOdds → List ℕ) 
   abbrev all_told : Bool → List ℕ
   all_told counted = if counted then counted_told (is_thirteen parts.tiles parts.melds) else none
 
-  odds_told : (odds : FoundOdds) → AreFound parts turns odds → first_told hand none odds ++ each_told (each_of odds) ≡ all_told (are_counted parts turns)
+  odds_told : (found : FoundByTurn) → AreFound parts turns found → first_told hand none turns found ++ each_told (each_of turns found) ≡ all_told (are_counted parts turns)
   odds_told Uncounted are = ap (λ (t : List ℕ). none ++ t) nothing ∙ append-nil none ∙ sym (ap all_told are)
-  odds_told (Hand odds) are = ap (λ (t : List ℕ). hand odds ++ t) nothing ∙ append-nil (hand odds) ∙ ap hand are.odds_are ∙ sym (ap counted_told are.thirteen) ∙ sym (ap all_told are.counted)
-  odds_told (Discards each) are = ap each_told are.odds_are ∙ sym (ap counted_told are.fourteen) ∙ sym (ap all_told are.counted)
+  odds_told (Hand chances) are =
+      ap (λ (t : List ℕ). hand (odds_at chances turns) ++ t) nothing ∙ append-nil (hand (odds_at chances turns)) ∙ ap hand (are.odds_are turns (omega arith)) ∙ sym (ap counted_told are.thirteen) ∙ sym (ap all_told are.counted)
+  odds_told (Discards each) are = ap each_told (are.odds_are turns (omega arith)) ∙ sym (ap counted_told are.fourteen) ∙ sym (ap all_told are.counted)
+
+-- those of one number of turns after each discard are parts of some draws
+pub parts_of_each : (found : FoundByTurn) (turns : ℕ) → AreParts turns found → All (λ (one : DiscardOdds). ArePartsOfAll one.odds) (each_of turns found)
+parts_of_each Uncounted turns are = search
+parts_of_each (Hand chances) turns are = search
+parts_of_each (Discards each) turns are = at_turns each.items are
+  where
+    at_turns : (some : List DiscardChances) → ArePartsOfEach turns some → All (λ (one : DiscardOdds). ArePartsOfAll one.odds) (each_odds_at some turns)
+    at_turns [] are = search
+    at_turns (one ∷ some) are = (are.0, at_turns some are.1)
+
+-- ---- by each number of turns
+
+module _ (odds other : ℕ → Odds) where
+  same_each_turn : (turns : ℕ) → ((count : ℕ) → count ≤ turns → odds count ≡ other count) → each_turn odds turns ≡ each_turn other turns
+  same_each_turn zero same = refl
+  same_each_turn (suc turns) same =
+      ap (λ (t : List ℕ). t ++ (comma_if (nat_lt 0 turns) ++ turn_json (odds (suc turns)))) (same_each_turn turns (λ count low. same count (omega (arith, low))))
+      ∙ ap (λ (o : Odds). each_turn other turns ++ (comma_if (nat_lt 0 turns) ++ turn_json o)) (same (suc turns) (omega arith))
+
+module _ (turns : ℕ) (odds other : ℕ → Odds) (same : (count : ℕ) → count ≤ turns → odds count ≡ other count) where
+  same_turns : by_turn_member odds turns ≡ by_turn_member other turns
+  same_turns = ap (λ (t : List ℕ). codes ",\"by_turn\":[" ++ t ++ codes "]") (same_each_turn odds other turns same)
+
+  same_hand : hand_json odds turns ≡ hand_json other turns
+  same_hand = ap (λ (o : Odds). odds_members o ++ by_turn_member odds turns) (same turns (omega arith)) ∙ ap (λ (t : List ℕ). odds_members (other turns) ++ t) same_turns
+
+  same_after : (others : List DiscardOdds) (kind : ℕ) → after_json others kind odds turns ≡ after_json others kind other turns
+  unfolding after_json
+  same_after others kind =
+      ap (λ (o : Odds). discard_json kind o ++ beaten_json o others ++ codes "]" ++ by_turn_member odds turns ++ codes "}") (same turns (omega arith))
+      ∙ ap (λ (t : List ℕ). discard_json kind (other turns) ++ beaten_json (other turns) others ++ codes "]" ++ t ++ codes "}") same_turns
+
+first_of : {one other : DiscardOdds} {more others : List DiscardOdds} → one ∷ more ≡ other ∷ others → one ≡ other
+first_of e = cc
+
+rest_of : {one other : DiscardOdds} {more others : List DiscardOdds} → one ∷ more ≡ other ∷ others → more ≡ others
+rest_of e = cc
+
+-- of each discard the same is told, if its chances by each number of turns are the same
+same_each : (others : List DiscardOdds) (turns : ℕ) (kinds : List ℕ) (wanted : ℕ → ℕ → Odds) (each : List DiscardChances) → ((count : ℕ) → count ≤ turns → each_odds_at each count ≡ map (λ kind. after_discard kind (wanted count kind)) kinds)
+    → map (one_json others turns) each ≡ map (λ kind. after_json others kind (λ count. wanted count kind) turns) kinds
+same_each others turns [] wanted [] same = refl
+same_each others turns (kind ∷ kinds) wanted [] same = absurd (let e = same 0 (omega arith) in cc)
+same_each others turns [] wanted (one ∷ each) same = absurd (let e = same 0 (omega arith) in cc)
+same_each others turns (kind ∷ kinds) wanted (one ∷ each) same =
+    let here : one.kind ≡ kind = ap (λ (d : DiscardOdds). d.kind) (first_of (same 0 (omega arith))) in
+    let told : ℕ → List ℕ = λ k. after_json others k (λ count. wanted count k) turns in
+    ap (λ (k : ℕ). after_json others k (odds_at one.chances) turns ∷ map (one_json others turns) each) here
+    ∙ ap (λ (t : List ℕ). t ∷ map (one_json others turns) each) (same_after turns (odds_at one.chances) (λ count. wanted count kind) (λ count low. ap (λ (d : DiscardOdds). d.odds) (first_of (same count low))) others kind)
+    ∙ ap (λ (ts : List (List ℕ)). told kind ∷ ts) (same_each others turns kinds wanted each (λ count low. rest_of (same count low)))
 
 -- ---- members
 
@@ -66,16 +111,23 @@ list_ended each = sym (append_assoc (codes "true,\"discards\":[" ++ each) (codes
 
 module _ (parts : ShapeParts) (turns : ℕ) where
   abbrev counted_members : Bool → List ℕ
-  counted_members thirteen = if thirteen then codes "true," ++ odds_members (odds_of parts turns) else codes "true,\"discards\":[" ++ each_json (best_odds parts turns) ++ codes "]"
+  counted_members thirteen = if thirteen then codes "true," ++ hand_json (odds_of parts) turns else codes "true,\"discards\":[" ++ best_json parts turns (discard_kinds (discards_of parts.tiles parts.melds parts.seen)) ++ codes "]"
 
   abbrev all_members : Bool → List ℕ
   all_members counted = (if counted then counted_members (is_thirteen parts.tiles parts.melds) else codes "false") ++ codes "}"
 
-  odds_members_are : (odds : FoundOdds) → AreFound parts turns odds → first_json odds ++ (each_json (each_of odds) ++ end_json odds) ≡ all_members (are_counted parts turns)
+  each_is : (each : List DiscardChances) → ((count : ℕ) → count ≤ turns → each_odds_at each count ≡ best_odds parts count) → each_json turns each ≡ best_json parts turns (discard_kinds (discards_of parts.tiles parts.melds parts.seen))
+  unfolding best_odds
+  each_is each are =
+      ap (λ (others : List DiscardOdds). listed (map (one_json others turns) each)) (are turns (omega arith))
+      ∙ ap listed (same_each (best_odds parts turns) turns (discard_kinds (discards_of parts.tiles parts.melds parts.seen)) (odds_after parts) each are)
+
+  odds_members_are : (found : FoundByTurn) → AreFound parts turns found → first_json turns found ++ (each_json turns (each_in found) ++ end_json found) ≡ all_members (are_counted parts turns)
   odds_members_are Uncounted are = sym (ap all_members are)
-  odds_members_are (Hand odds) are = ap (λ (o : Odds). (codes "true," ++ odds_members o) ++ codes "}") are.odds_are ∙ sym (ap (λ (t : Bool). counted_members t ++ codes "}") are.thirteen) ∙ sym (ap all_members are.counted)
+  odds_members_are (Hand chances) are =
+      ap (λ (t : List ℕ). (codes "true," ++ t) ++ codes "}") (same_hand turns (odds_at chances) (odds_of parts) are.odds_are) ∙ sym (ap (λ (t : Bool). counted_members t ++ codes "}") are.thirteen) ∙ sym (ap all_members are.counted)
   odds_members_are (Discards each) are =
-      ap (λ (es : List DiscardOdds). codes "true,\"discards\":[" ++ (each_json es ++ codes "]}")) are.odds_are ∙ list_ended (each_json (best_odds parts turns))
+      ap (λ (t : List ℕ). codes "true,\"discards\":[" ++ (t ++ codes "]}")) (each_is each.items are.odds_are) ∙ list_ended (best_json parts turns (discard_kinds (discards_of parts.tiles parts.melds parts.seen)))
       ∙ sym (ap (λ (t : Bool). counted_members t ++ codes "}") are.fourteen) ∙ sym (ap all_members are.counted)
 
 -- ---- all that is told
@@ -86,20 +138,24 @@ module _ (parts : ShapeParts) (turns : ℕ) (found : FoundChances) (is : IsFound
 
   text_is : found_text found ≡ chances_text parts turns
   text_is =
-      append_assoc (front_text found.shanten found.turns found.unseen) (first_told odds_text (codes " chances none") found.odds) (flat_map after_text (each_of found.odds))
-      ∙ ap (λ (t : List ℕ). front_text found.shanten found.turns found.unseen ++ t) (odds_told odds_text (λ (es : List DiscardOdds). flat_map after_text es) refl (codes " chances none") parts turns found.odds is.are_found)
+      let front : List ℕ = front_text found.shanten found.turns found.unseen in
+      ap (λ n. (front ++ first_told odds_text (codes " chances none") n found.by_turn) ++ flat_map after_text (each_of n found.by_turn)) is.turns_are
+      ∙ append_assoc front (first_told odds_text (codes " chances none") turns found.by_turn) (flat_map after_text (each_of turns found.by_turn))
+      ∙ ap (λ (t : List ℕ). front ++ t) (odds_told odds_text (λ (es : List DiscardOdds). flat_map after_text es) refl (codes " chances none") parts turns found.by_turn is.are_found)
       ∙ ap (λ (t : List ℕ). t ++ (if are_counted parts turns then counted_text parts turns else codes " chances none")) (front_is front_text)
 
   reasons_are : found_reasons found ≡ chances_reasons parts turns
   reasons_are =
-      odds_told hand_odds_reason (λ (es : List DiscardOdds). flat_map (after_reason es) es) refl uncounted_reason parts turns found.odds is.are_found
+      ap (λ n. first_told hand_odds_reason uncounted_reason n found.by_turn ++ flat_map (after_reason (each_of n found.by_turn)) (each_of n found.by_turn)) is.turns_are
+      ∙ odds_told hand_odds_reason (λ (es : List DiscardOdds). flat_map (after_reason es) es) refl uncounted_reason parts turns found.by_turn is.are_found
 
   members_are : found_members found ≡ chances_members parts turns
   members_are =
       let front : List ℕ = front_json chances_name found.shanten found.turns found.unseen in
       let counted : List ℕ = if are_counted parts turns then counted_json parts turns else codes "false" in
-      append_assoc front (first_json found.odds) (each_json (each_of found.odds) ++ end_json found.odds)
-      ∙ ap (λ (t : List ℕ). front ++ t) (odds_members_are parts turns found.odds is.are_found)
+      ap (λ n. (front ++ first_json n found.by_turn) ++ (each_json n (each_in found.by_turn) ++ end_json found.by_turn)) is.turns_are
+      ∙ append_assoc front (first_json turns found.by_turn) (each_json turns (each_in found.by_turn) ++ end_json found.by_turn)
+      ∙ ap (λ (t : List ℕ). front ++ t) (odds_members_are parts turns found.by_turn is.are_found)
       ∙ sym (append_assoc front counted (codes "}"))
       ∙ ap (λ (t : List ℕ). (t ++ counted) ++ codes "}") (front_is (front_json chances_name))
 

@@ -1,12 +1,11 @@
 //! Answers to questions of chances.
-ghost use Rattle.std.specs.Prelude.{◌≡◌, ◌+◌, ◌*◌, ◌≤◌, ◌++◌, length};
+ghost use Rattle.std.specs.Prelude.{◌≡◌, ◌+◌, ◌*◌, ◌≤◌, ◌++◌, All, length};
 ghost use Rattle.std.specs.List.{flat_map};
 ghost use Rattle.arrayvec.specs.ArrayString.{array_string_len};
-ghost use Rattle.riichi_chances.specs.Odds.{ArePartsOfAll};
+ghost use Rattle.riichi_chances.specs.Odds.{ArePartsOfAll, odds_at};
 ghost use Rattle.desk_json.specs.Parts.{comma_if};
 ghost use Rattle.riichi_study.specs.ChanceTexts.{uncounted_reason};
 ghost use Rattle.desk_study.specs.Answers as room;
-ghost use Rattle.desk_study.specs.ChanceObjects as objects;
 ghost use Rattle.desk_study.specs.Found as spec;
 
 use crate::chance_objects::{
@@ -14,10 +13,10 @@ use crate::chance_objects::{
     push_after as push_member, push_chances_front as push_members_front, push_end, push_first,
 };
 use crate::form::StudiesForm;
-use crate::found::{FoundChances, FoundOdds};
+use crate::found::{FoundByTurn, FoundChances};
 use crate::puts::{put_object_piece, put_piece};
 use desk_lines::Outbox;
-use riichi_chances::DiscardOdds;
+use riichi_chances::{DiscardChances, DiscardOdds, each_odds_at};
 use riichi_chances_text::{MOST_ODDS, push_odds};
 use riichi_study::{
     MOST_AFTER, MOST_AFTER_REASON, MOST_CHANCES_FRONT, push_after, push_after_reason,
@@ -45,8 +44,7 @@ const MOST_ANSWER: usize = MOST_LINE + MOST_WORDS + MOST_MEMBERS;
 
 /// Puts what is found of a question of chances.
 pub(crate) fn put_chances(form: StudiesForm, found: &FoundChances, outbox: &mut Outbox)
-    requires parts { spec.AreParts found.now.odds }
-    requires few { length (spec.each_of found.now.odds) ≤ 14 }
+    requires parts { spec.AreParts found.now.turns found.now.by_turn }
     requires room { room.HasRoomFor MOST_ANSWER outbox.old }
     ensures bytes { outbox.new.bytes.items
         ≡ outbox.old.bytes.items ++ spec.found_told form found.now }
@@ -64,8 +62,7 @@ pub(crate) fn put_chances(form: StudiesForm, found: &FoundChances, outbox: &mut 
 
 /// Puts the line of the answer.
 fn put_line(found: &FoundChances, outbox: &mut Outbox)
-    requires parts { spec.AreParts found.now.odds }
-    requires few { length (spec.each_of found.now.odds) ≤ 14 }
+    requires parts { spec.AreParts found.now.turns found.now.by_turn }
     requires room { room.HasRoomFor MOST_LINE outbox.old }
     ensures bytes { outbox.new.bytes.items ≡ outbox.old.bytes.items ++ spec.found_text found.now }
     ensures room { length outbox.new.bytes.items ≤ length outbox.old.bytes.items + MOST_LINE }
@@ -77,52 +74,53 @@ fn put_line(found: &FoundChances, outbox: &mut Outbox)
         found.turns.count(),
         found.unseen,
     );
-    push_first_text(&mut outbox.text, &found.odds);
+    push_first_text(&mut outbox.text, &found.by_turn, found.turns.count());
     put_piece(outbox);
-    put_each(false, found.odds.discards(), outbox);
+    put_discards(false, found, outbox);
 }
 
 /// Puts the lines in words.
 fn put_words(found: &FoundChances, outbox: &mut Outbox)
-    requires parts { spec.AreParts found.now.odds }
-    requires few { length (spec.each_of found.now.odds) ≤ 14 }
+    requires parts { spec.AreParts found.now.turns found.now.by_turn }
     requires room { room.HasRoomFor MOST_WORDS outbox.old }
     ensures bytes { outbox.new.bytes.items
         ≡ outbox.old.bytes.items ++ spec.found_reasons found.now }
     ensures room { length outbox.new.bytes.items ≤ length outbox.old.bytes.items + MOST_WORDS }
 {
     outbox.text.clear();
-    push_first_reason(&mut outbox.text, &found.odds);
+    push_first_reason(&mut outbox.text, &found.by_turn, found.turns.count());
     put_piece(outbox);
-    put_each(true, found.odds.discards(), outbox);
+    put_discards(true, found, outbox);
 }
 
 /// Writes the chances of thirteen tiles, or that none are counted.
-fn push_first_text(text: &mut AnswerText, odds: &FoundOdds)
-    requires parts { spec.AreParts odds.now }
+fn push_first_text(text: &mut AnswerText, found: &FoundByTurn, turns: u8)
+    requires turns { turns ≤ 18 }
+    requires parts { spec.AreParts turns found.now }
     requires room { array_string_len text.old + MOST_ODDS ≤ ANSWER_ROOM }
-    ensures bytes { text.new.bytes ≡ text.old.bytes ++ spec.first_text odds.now }
+    ensures bytes { text.new.bytes ≡ text.old.bytes ++ spec.first_text turns found.now }
     ensures len { array_string_len text.new ≤ array_string_len text.old + MOST_ODDS }
 {
-    match odds {
-        FoundOdds::Uncounted => text.push_str(" chances none"),
-        FoundOdds::Hand(odds) => push_odds(text, odds),
-        FoundOdds::Discards(_) => {}
+    match found {
+        FoundByTurn::Uncounted => text.push_str(" chances none"),
+        FoundByTurn::Hand(chances) => push_odds(text, &chances.at(turns)),
+        FoundByTurn::Discards(_) => {}
     }
 }
 
 /// Writes the same in words.
-fn push_first_reason(text: &mut AnswerText, odds: &FoundOdds)
-    requires parts { spec.AreParts odds.now }
+fn push_first_reason(text: &mut AnswerText, found: &FoundByTurn, turns: u8)
+    requires turns { turns ≤ 18 }
+    requires parts { spec.AreParts turns found.now }
     requires room { array_string_len text.old + MOST_UNCOUNTED + MOST_AFTER_REASON ≤ ANSWER_ROOM }
-    ensures bytes { text.new.bytes ≡ text.old.bytes ++ spec.first_reason odds.now }
+    ensures bytes { text.new.bytes ≡ text.old.bytes ++ spec.first_reason turns found.now }
     ensures len { array_string_len text.new
         ≤ array_string_len text.old + MOST_UNCOUNTED + MOST_AFTER_REASON }
 {
-    match odds {
-        FoundOdds::Uncounted => push_uncounted(text),
-        FoundOdds::Hand(odds) => push_hand_odds_reason(text, odds),
-        FoundOdds::Discards(_) => {}
+    match found {
+        FoundByTurn::Uncounted => push_uncounted(text),
+        FoundByTurn::Hand(chances) => push_hand_odds_reason(text, &chances.at(turns)),
+        FoundByTurn::Discards(_) => {}
     }
 }
 
@@ -138,8 +136,21 @@ pub(crate) fn push_uncounted(text: &mut AnswerText)
 }
 
 /// Puts the chances after each discard, in the line or in words.
+fn put_discards(in_words: bool, found: &FoundChances, outbox: &mut Outbox)
+    requires parts { spec.AreParts found.now.turns found.now.by_turn }
+    requires room { room.HasRoomFor (14 * MOST_AFTER) outbox.old }
+    ensures bytes { outbox.new.bytes.items ≡ outbox.old.bytes.items
+        ++ flat_map (spec.one_told in_words (spec.each_of found.now.turns found.now.by_turn))
+        (spec.each_of found.now.turns found.now.by_turn) }
+    ensures room { length outbox.new.bytes.items
+        ≤ length outbox.old.bytes.items + 14 * MOST_AFTER }
+{
+    let each = found.by_turn.discards_at(found.turns.count());
+    put_each(in_words, each.as_slice(), outbox);
+}
+
 fn put_each(in_words: bool, each: &[DiscardOdds], outbox: &mut Outbox)
-    requires parts { spec.ArePartsOfEach each.now }
+    requires parts { All (λ one. ArePartsOfAll one.odds) each.now }
     requires few { length each.now ≤ 14 }
     requires room { room.HasRoomFor (length each.now * MOST_AFTER) outbox.old }
     ensures bytes { outbox.new.bytes.items
@@ -172,8 +183,7 @@ fn put_after(in_words: bool, others: &[DiscardOdds], one: &DiscardOdds, outbox: 
 
 /// Puts the members of the answer's object.
 fn put_members(found: &FoundChances, outbox: &mut Outbox)
-    requires parts { spec.AreParts found.now.odds }
-    requires few { length (spec.each_of found.now.odds) ≤ 14 }
+    requires parts { spec.AreParts found.now.turns found.now.by_turn }
     requires room { room.HasRoomFor MOST_MEMBERS outbox.old }
     ensures bytes { outbox.new.bytes.items
         ≡ outbox.old.bytes.items ++ spec.found_members found.now }
@@ -187,41 +197,50 @@ fn put_members(found: &FoundChances, outbox: &mut Outbox)
         found.turns.count(),
         found.unseen,
     );
-    push_first(&mut outbox.object, &found.odds);
+    push_first(&mut outbox.object, &found.by_turn, found.turns.count());
     put_object_piece(outbox);
-    put_each_member(found.odds.discards(), outbox);
+    put_each_member(found.by_turn.discards(), found.turns.count(), outbox);
     outbox.object.clear();
-    push_end(&mut outbox.object, &found.odds);
+    push_end(&mut outbox.object, &found.by_turn);
     put_object_piece(outbox);
 }
 
 /// Puts the chances after each discard, with commas between them.
-fn put_each_member(each: &[DiscardOdds], outbox: &mut Outbox)
-    requires parts { spec.ArePartsOfEach each.now }
+fn put_each_member(each: &[DiscardChances], turns: u8, outbox: &mut Outbox)
+    requires turns { turns ≤ 18 }
+    requires parts { spec.ArePartsOfEach turns each.now }
     requires few { length each.now ≤ 14 }
     requires room { room.HasRoomFor (length each.now * MOST_MEMBER) outbox.old }
     ensures bytes { outbox.new.bytes.items
-        ≡ outbox.old.bytes.items ++ objects.each_json each.now }
+        ≡ outbox.old.bytes.items ++ spec.each_json turns each.now }
     ensures room { length outbox.new.bytes.items
         ≤ length outbox.old.bytes.items + length each.now * MOST_MEMBER }
 {
+    let others = each_odds_at(each, turns);
     let mut later = false;
     for one in each {
-        put_member(later, each, one, outbox);
+        put_member(later, others.as_slice(), one, turns, outbox);
         later = true;
     }
 }
 
 /// Puts the chances after a discard, behind a comma where it is not the first.
-fn put_member(later: bool, others: &[DiscardOdds], one: &DiscardOdds, outbox: &mut Outbox)
-    requires parts { ArePartsOfAll one.now.odds }
+fn put_member(
+    later: bool,
+    others: &[DiscardOdds],
+    one: &DiscardChances,
+    turns: u8,
+    outbox: &mut Outbox,
+)
+    requires turns { turns ≤ 18 }
+    requires parts { ArePartsOfAll (odds_at one.now.chances turns) }
     requires few { length others.now ≤ 14 }
     requires room { room.HasRoomFor MOST_MEMBER outbox.old }
-    ensures bytes { outbox.new.bytes.items
-        ≡ outbox.old.bytes.items ++ (comma_if later ++ objects.after_json others.now one.now) }
+    ensures bytes { outbox.new.bytes.items ≡ outbox.old.bytes.items
+        ++ (comma_if later ++ spec.one_json others.now turns one.now) }
     ensures room { length outbox.new.bytes.items ≤ length outbox.old.bytes.items + MOST_MEMBER }
 {
     outbox.object.clear();
-    push_member(&mut outbox.object, later, others, one);
+    push_member(&mut outbox.object, later, others, one, turns);
     put_object_piece(outbox);
 }

@@ -8,7 +8,8 @@ ghost use Rattle.desk_study.specs.Found as spec;
 
 use arrayvec::ArrayVec;
 use riichi_chances::{
-    DiscardOdds, HandPlace, Odds, Rows, TooManyHands, chances_of, discard_odds, unseen_tiles,
+    Chances, DiscardChances, DiscardOdds, HandPlace, Rows, TooManyHands, chances_of,
+    discard_chances, each_odds_at, unseen_tiles,
 };
 use riichi_hand::ShapeRecord;
 use riichi_shape::{Accepts, RowSource, ShapeAnswer, shape_with};
@@ -17,26 +18,35 @@ use riichi_study::Turns;
 /// Chances are counted for hands that are no farther from a win.
 const MOST_SHANTEN: i8 = 3;
 
-/// How likely a hand is to be ready, and to win.
+/// How likely a hand is to be ready, and to win, by each number of turns.
 #[derive(Drop)]
-pub(crate) enum FoundOdds {
+pub(crate) enum FoundByTurn {
     /// It isn't counted: the hand is too far from a win, or more turns are to come than there are tiles.
     Uncounted,
     /// Of thirteen tiles.
-    Hand(Odds),
+    Hand(Chances),
     /// Of fourteen tiles, after each of their best discards.
-    Discards(ArrayVec<DiscardOdds, 14>),
+    Discards(ArrayVec<DiscardChances, 14>),
 }
 
-impl FoundOdds {
-    /// The discards.
-    pub fn discards(&self) -> &[DiscardOdds]
-        ensures { result.now ≡ spec.each_of self.now }
+impl FoundByTurn {
+    /// After each discard.
+    pub fn discards(&self) -> &[DiscardChances]
+        ensures each { result.now ≡ spec.each_in self.now }
+        ensures few { length result.now ≤ 14 }
     {
         match self {
-            FoundOdds::Uncounted | FoundOdds::Hand(_) => &[],
-            FoundOdds::Discards(each) => each.as_slice(),
+            FoundByTurn::Uncounted | FoundByTurn::Hand(_) => &[],
+            FoundByTurn::Discards(each) => each.as_slice(),
         }
+    }
+
+    /// After each discard by so many turns.
+    pub fn discards_at(&self, turns: u8) -> ArrayVec<DiscardOdds, 14>
+        requires { turns ≤ 18 }
+        ensures { result.items ≡ spec.each_of turns self.now }
+    {
+        each_odds_at(self.discards(), turns)
     }
 }
 
@@ -46,7 +56,7 @@ pub(crate) struct FoundChances {
     pub shanten: i8,
     pub turns: Turns,
     pub unseen: u8,
-    pub odds: FoundOdds,
+    pub by_turn: FoundByTurn,
 }
 
 /// Finds how likely a hand is to be ready, and to win, by so many draws. The hands that it may come to stand in places that are lent.
@@ -64,16 +74,16 @@ pub(crate) fn find_chances<S: RowSource>(
     let _shape = hand.tiles();
     let answer = shape_with(source, hand);
     let unseen = unseen_tiles(hand);
-    let odds = if are_counted(answer.shanten, turns.count(), unseen) {
+    let by_turn = if are_counted(answer.shanten, turns.count(), unseen) {
         count(places, rows, source, hand, turns, &answer)?
     } else {
-        FoundOdds::Uncounted
+        FoundByTurn::Uncounted
     };
     Ok(FoundChances {
         shanten: answer.shanten,
         turns,
         unseen,
-        odds,
+        by_turn,
     })
 }
 
@@ -93,12 +103,11 @@ fn count<S: RowSource>(
     hand: &ShapeRecord,
     turns: Turns,
     answer: &ShapeAnswer,
-) -> Result<FoundOdds, TooManyHands>
+) -> Result<FoundByTurn, TooManyHands>
     requires answer { answer.now ≡ shape_answer_of hand.now }
     requires counted { are_counted hand.now turns ≡ true }
     ensures found { IfOk result (spec.AreFound hand.now turns) }
-    ensures parts { IfOk result spec.AreParts }
-    ensures few { IfOk result (λ odds. length (spec.each_of odds) ≤ 14) }
+    ensures parts { IfOk result (spec.AreParts turns) }
     ensures many { OnErr result
         (ComesToTooMany (most_hands_in (length places.old) (length rows.old)) hand.now) }
 {
@@ -108,12 +117,11 @@ fn count<S: RowSource>(
     match &answer.accepts {
         Accepts::Thirteen(_) => {
             let chances = chances_of(places, rows, source, hand, draws)?;
-            Ok(FoundOdds::Hand(chances.at(draws)))
+            Ok(FoundByTurn::Hand(chances))
         }
-        Accepts::Fourteen(discards) => {
-            let _few = discards.len();
-            let each = discard_odds(places, rows, source, hand, draws)?;
-            Ok(FoundOdds::Discards(each))
+        Accepts::Fourteen(_) => {
+            let each = discard_chances(places, rows, source, hand, draws)?;
+            Ok(FoundByTurn::Discards(each))
         }
     }
 }

@@ -1,7 +1,7 @@
 -- The chances of one number of turns, by those of all.
 use Rattle.std.proofs.Common.{◌≡◌, ℕ, zero, suc, ◌-◌, ◌*◌, ◌<◌, ◌≤◌, List, [], ◌∷◌, length, map, refl, sym, subst, ap, ◌∙◌, arith}
 use Rattle.std.proofs.lemmas.List.{get_or-map, length-map}
-use Rattle.std.proofs.lemmas.List.Elements.{All-from_get_or, All-map}
+use Rattle.std.proofs.lemmas.List.Elements.{All-from_get_or}
 use Rattle.std.specs.Prelude.{All, slice_index, slice_index_or}
 use Rattle.riichi_hand.specs.HandParts.{ShapeParts}
 use Rattle.riichi_shape.specs.Choosing.{LeavesLeast}
@@ -27,11 +27,11 @@ odds_from ready ready_at_most win win_at_most all = record { ready = ready; read
 same_odds : {f g h i j k l m n o : ℕ} → f ≡ k → g ≡ l → h ≡ m → i ≡ n → j ≡ o → odds_from f g h i j ≡ odds_from k l m n o
 same_odds p q r s t = cc
 
-by_chances : (parts told : ShapeParts) (turns : ℕ) (chances : Chances) → AreChances parts turns chances → AreAtMost told (unseen_of parts) turns chances → odds_at chances turns ≡ odds_by parts told turns
-by_chances parts told turns chances are most =
-    same_odds (are.ready turns (omega arith)) (most.ready turns (omega arith)) (are.win turns (omega arith)) (most.win turns (omega arith)) (are.all turns (omega arith))
+by_chances : (parts told : ShapeParts) (turns count : ℕ) (chances : Chances) → count ≤ turns → AreChances parts turns chances → AreAtMost told (unseen_of parts) turns chances → odds_at chances count ≡ odds_by parts told count
+by_chances parts told turns count chances low are most =
+    same_odds (are.ready count low) (most.ready count low) (are.win count low) (most.win count low) (are.all count low)
 
-pub thirteen_odds : (parts : ShapeParts) (turns : ℕ) (chances : Chances) → AreChances parts turns chances → AreAtMost parts (unseen_of parts) turns chances → odds_at chances turns ≡ odds_of parts turns
+pub thirteen_odds : (parts : ShapeParts) (turns count : ℕ) (chances : Chances) → count ≤ turns → AreChances parts turns chances → AreAtMost parts (unseen_of parts) turns chances → odds_at chances count ≡ odds_of parts count
 unfolding odds_of
 thirteen_odds parts = by_chances parts parts
 
@@ -48,11 +48,11 @@ same_each (one ∷ each) (kind ∷ kinds) value wanted e same =
     ∙ ap (λ (rest : List DiscardOdds). after_discard kind (wanted kind) ∷ rest) (same_each each kinds value wanted others (λ place it low. same (suc place) it (omega (arith, low))))
 
 -- after each best discard of fourteen tiles
-pub fourteen_odds : (drawn : ShapeParts) (turns : ℕ) (each : List DiscardChances) → map (λ (one : DiscardChances). one.kind) each ≡ discard_kinds (discards_of drawn.tiles drawn.melds drawn.seen) → AreAfter drawn turns each → AreAfterAtMost drawn turns each → each_odds_at each turns ≡ best_odds drawn turns
+pub fourteen_odds : (drawn : ShapeParts) (turns count : ℕ) (each : List DiscardChances) → count ≤ turns → map (λ (one : DiscardChances). one.kind) each ≡ discard_kinds (discards_of drawn.tiles drawn.melds drawn.seen) → AreAfter drawn turns each → AreAfterAtMost drawn turns each → each_odds_at each count ≡ best_odds drawn count
 unfolding odds_after best_odds
-fourteen_odds drawn turns each kinds are most =
-    same_each each (discard_kinds (discards_of drawn.tiles drawn.melds drawn.seen)) (λ (one : DiscardChances). odds_at one.chances turns) (odds_after drawn turns) kinds
-    (λ place one low. by_chances (parts_without drawn (slice_index_or each place one).kind) (parts_told drawn (slice_index_or each place one).kind) turns (slice_index_or each place one).chances (are place one low) (most place one low))
+fourteen_odds drawn turns count each few kinds are most =
+    same_each each (discard_kinds (discards_of drawn.tiles drawn.melds drawn.seen)) (λ (one : DiscardChances). odds_at one.chances count) (odds_after drawn count) kinds
+    (λ place one low. by_chances (parts_without drawn (slice_index_or each place one).kind) (parts_told drawn (slice_index_or each place one).kind) turns count (slice_index_or each place one).chances few (are place one low) (most place one low))
 
 -- where there are as many tiles as draws
 pub all_some : (unseen turns : ℕ) → turns ≤ unseen → 0 < all_draws unseen turns
@@ -75,7 +75,7 @@ parts_of_all parts told turns chances are most few = record {
 }
 
 -- after each best discard too: of what is thrown no copy is unseen that wasn't before
-pub fourteen_parts : (drawn : ShapeParts) (turns : ℕ) (each : List DiscardChances) → IsFourteen drawn → map (λ (one : DiscardChances). one.kind) each ≡ discard_kinds (discards_of drawn.tiles drawn.melds drawn.seen) → AreAfter drawn turns each → AreAfterAtMost drawn turns each → turns ≤ unseen_of drawn
+fourteen_parts : (drawn : ShapeParts) (turns : ℕ) (each : List DiscardChances) → IsFourteen drawn → map (λ (one : DiscardChances). one.kind) each ≡ discard_kinds (discards_of drawn.tiles drawn.melds drawn.seen) → AreAfter drawn turns each → AreAfterAtMost drawn turns each → turns ≤ unseen_of drawn
     → (place : ℕ) (one : DiscardChances) → place < length each → ArePartsOfAll (odds_at (slice_index_or each place one).chances turns)
 fourteen_parts drawn turns each is kinds are most few place one low =
     parts_of_all (parts_without drawn kind) (parts_told drawn kind) turns (slice_index_or each place one).chances (are place one low) (most place one low) (omega (arith, few, discard_unseen drawn is kind best.is_kind best.held))
@@ -96,8 +96,8 @@ fourteen_parts drawn turns each is kinds are most few place one low =
     best = subst (LeavesLeast drawn.tiles drawn.melds) kind_is (best_listed drawn discards place refl inside)
 
 pub each_parts : (drawn : ShapeParts) (turns : ℕ) (each : List DiscardChances) → IsFourteen drawn → map (λ (one : DiscardChances). one.kind) each ≡ discard_kinds (discards_of drawn.tiles drawn.melds drawn.seen) → AreAfter drawn turns each → AreAfterAtMost drawn turns each → turns ≤ unseen_of drawn
-    → All (λ (one : DiscardOdds). ArePartsOfAll one.odds) (each_odds_at each turns)
-each_parts drawn turns each is kinds are most few = All-map (λ (one : DiscardOdds). ArePartsOfAll one.odds) (λ (one : DiscardChances). after_discard one.kind (odds_at one.chances turns)) each (every each (fourteen_parts drawn turns each is kinds are most few))
+    → All (λ (one : DiscardChances). ArePartsOfAll (odds_at one.chances turns)) each
+each_parts drawn turns each is kinds are most few = every each (fourteen_parts drawn turns each is kinds are most few)
   where
     every : (some : List DiscardChances) → ((place : ℕ) (one : DiscardChances) → place < length some → ArePartsOfAll (odds_at (slice_index_or some place one).chances turns)) → All (λ (one : DiscardChances). ArePartsOfAll (odds_at one.chances turns)) some
     every [] at = search

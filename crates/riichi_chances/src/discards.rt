@@ -6,7 +6,7 @@ ghost use Rattle.riichi_shape.specs.EveryWinning.{distance_of};
 ghost use Rattle.riichi_deeper.specs.Drawn.{parts_without};
 ghost use Rattle.riichi_chances.specs.Chances as spec;
 ghost use Rattle.riichi_chances.specs.Draws.{is_there, unseen_of};
-ghost use Rattle.riichi_chances.specs.Odds.{ArePartsOfAll, best_odds, each_odds_at};
+ghost use Rattle.riichi_chances.specs.Odds as odds;
 ghost use Rattle.riichi_chances.specs.Reachable.{HaveNoRoom, HaveRoom, SomeHaveNoRoom, by_itself, groups_of, together};
 
 use crate::building::places_of;
@@ -167,33 +167,11 @@ fn with_kinds(discards: &DiscardList, chances: &[Chances]) -> ArrayVec<DiscardCh
     each
 }
 
-/// Those of one number of turns after each best discard, in the same order.
-pub fn discard_odds<R: RowSource>(
-    places: &mut [HandPlace],
-    rows: &mut [Rows],
-    source: &mut R,
-    asked: &ShapeRecord,
-    turns: u8,
-) -> Result<ArrayVec<DiscardOdds, 14>, TooManyHands>
-    requires fourteen { size asked.now.tiles asked.now.melds ≡ 14 }
-    requires turns { turns ≤ 18 }
-    ensures value { IfOk result (λ each. each.items ≡ best_odds asked.now turns) }
-    ensures parts { turns ≤ unseen_of asked.now
-        → IfOk result (λ each. All (λ one. ArePartsOfAll one.odds) each.items) }
-    ensures few { OnOk result (All (HaveRoom places.old rows.old) (groups_of asked.now)) }
-    ensures many { OnErr result (SomeHaveNoRoom places.old rows.old asked.now) }
-    ensures stays { source.new ≡ source.old }
-{
-    let _unseen = unseen_tiles(asked);
-    let each = discard_chances(places, rows, source, asked, turns)?;
-    Ok(each_at(each.as_slice(), turns))
-}
-
-/// Of each those of one number of turns.
-fn each_at(each: &[DiscardChances], turns: u8) -> ArrayVec<DiscardOdds, 14>
+/// After each discard those of one number of turns.
+pub fn each_odds_at(each: &[DiscardChances], turns: u8) -> ArrayVec<DiscardOdds, 14>
     requires turns { turns ≤ 18 }
     requires few { length each.now ≤ 14 }
-    ensures { result.items ≡ each_odds_at each.now turns }
+    ensures { result.items ≡ odds.each_odds_at each.now turns }
 {
     let mut odds = ArrayVec::new();
     for one in each {

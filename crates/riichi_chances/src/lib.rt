@@ -18,7 +18,7 @@
 //! [`Room`] of them), some two kilobytes for each hand; what may come to more hands is refused ([`TooManyHands`]). It never tells
 //! another number, and it refuses nothing that comes to no more. There are 65,535 places at most.
 //!
-//! [`Chances::at`] are those of one number of turns, [`Odds`], and [`discard_odds`] those after each best discard. A [`Fraction`] of such numbers is told in lowest terms, or in ten thousandths.
+//! [`Chances::at`] are those of one number of turns, [`Odds`], and [`each_odds_at`] those after each discard. A [`Fraction`] of such numbers is told in lowest terms, or in ten thousandths.
 //!
 //! So `234m45678p34s558s`, of 123 unseen tiles, is ready by the next draw in 20 of 123 cases, and wins by two draws in 165 of
 //! 15,006.
@@ -47,7 +47,7 @@ mod unseen;
 
 pub use building::{place_of, places_of};
 pub use chances::{Chances, chances_of};
-pub use discards::{DiscardChances, discard_chances, discard_odds};
+pub use discards::{DiscardChances, discard_chances, each_odds_at};
 pub use fault::TooManyHands;
 pub use fraction::Fraction;
 pub use goal::{Goal, is_won};

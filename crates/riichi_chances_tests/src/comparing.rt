@@ -4,7 +4,7 @@ use crate::hands::{hand, kind, size};
 use crate::room::room_for;
 use crate::worked::refused;
 use arrayvec::ArrayVec;
-use riichi_chances::{DiscardOdds, Odds, discard_odds, unseen_tiles};
+use riichi_chances::{DiscardOdds, Odds, discard_chances, each_odds_at, unseen_tiles};
 use riichi_hand::ShapeRecord;
 use riichi_rows::FreshRows;
 use riichi_tiles::Kind;
@@ -33,14 +33,15 @@ fn each_of(
         return Err(Fail::from("not fourteen tiles, or too many turns"));
     }
     let mut room = room_for(alloc, MOST_HANDS)?;
-    discard_odds(
+    let each = discard_chances(
         room.places.as_mut_slice(),
         room.rows.as_mut_slice(),
         &mut FreshRows,
         asked,
         turns,
     )
-    .map_err(refused)
+    .map_err(refused)?;
+    Ok(each_odds_at(each.as_slice(), turns))
 }
 
 /// By 18 turns 2m wins in 0.4984 of all draws and 6s in 0.4745 at most, so 2m is surely better; by 6 turns it is not.

@@ -1,5 +1,5 @@
 -- The texts of the chances of one number of turns.
-use Rattle.std.specs.Prelude.{ℕ, List, ◌++◌, codes, decimal}
+use Rattle.std.specs.Prelude.{ℕ, zero, suc, Bool, List, [], ◌++◌, codes, decimal, if◌then◌else◌, nat_lt}
 use Rattle.riichi_chances.specs.Fractions.{in_lowest_terms}
 use Rattle.riichi_chances.specs.declared.fraction.Fraction.{Fraction}
 use Rattle.riichi_chances.specs.declared.odds.Odds.{Odds}
@@ -33,6 +33,24 @@ abbrev pub odds_members : Odds → List ℕ
 odds_members odds =
     member_json (codes "\"ready\":") (part_of odds.ready odds) ++ member_json (codes ",\"ready_at_most\":") (part_of odds.ready_at_most odds)
     ++ member_json (codes ",\"win\":") (part_of odds.win odds) ++ member_json (codes ",\"win_at_most\":") (part_of odds.win_at_most odds)
+
+-- ---- by each number of turns
+
+-- of all draws those that make a hand ready, and those by which it wins: numbers that may be too great for programs
+abbrev pub turn_json : Odds → List ℕ
+turn_json odds = codes "{\"ready\":\"" ++ decimal odds.ready ++ codes "\",\"win\":\"" ++ decimal odds.win ++ codes "\",\"draws\":\"" ++ decimal odds.all ++ codes "\"}"
+
+abbrev pub comma_if : Bool → List ℕ
+comma_if later = if later then codes "," else []
+
+-- those by one turn, by two, and so on up to so many, with commas between them
+abbrev pub each_turn : (ℕ → Odds) → ℕ → List ℕ
+each_turn odds zero = []
+each_turn odds (suc turns) = each_turn odds turns ++ (comma_if (nat_lt 0 turns) ++ turn_json (odds (suc turns)))
+
+-- as one more member of an object
+abbrev pub by_turn_member : (ℕ → Odds) → ℕ → List ℕ
+by_turn_member odds turns = codes ",\"by_turn\":[" ++ each_turn odds turns ++ codes "]"
 
 -- ---- in words
 

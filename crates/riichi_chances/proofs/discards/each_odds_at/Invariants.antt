@@ -1,6 +1,6 @@
 use Rattle.std.proofs.Common.{◌≡◌, take}
 use Rattle.riichi_chances.specs.Odds.{each_odds_at}
-use Rattle.riichi_chances.proofs.discards.each_at.Given as goal
+use Rattle.riichi_chances.proofs.discards.each_odds_at.Given as goal
 
 -- those so far are there
 abbrev pub invariant-loop-one : goal.invariant-loop-one
