@@ -68,22 +68,22 @@ impl KeptRow {
 
 /// The row of a key: one that is kept, or a new one over upper ranks that may be kept. It stands at its place or behind that;
 /// a new one stands first, and the older of the two gives way.
-pub(crate) fn row_at(rows: &mut [KeptRow], uppers: &mut [KeptUpper], key: RowKey) -> SuitRow
+pub(crate) fn row_at(rows: &mut [KeptRow], uppers: &mut [KeptUpper], key: &RowKey) -> SuitRow
     requires rows { 0 < length rows.old }
     requires uppers { 0 < length uppers.old }
-    requires caps { (r : ℕ) → r < 9 → slice_index key.caps r ≤ 4 }
-    ensures row { IsMarkedRow key.runs key.counts key.caps result }
+    requires caps { (r : ℕ) → r < 9 → slice_index key.now.caps r ≤ 4 }
+    ensures row { IsMarkedRow key.now.runs key.now.counts key.now.caps result }
     ensures rows { length rows.new ≡ length rows.old }
     ensures uppers { length uppers.new ≡ length uppers.old }
 {
     let newer = key.place(rows.len());
     let older = (newer + 1).min(rows.len() - 1);
-    if let Some(row) = rows[newer].row_of(&key) {
+    if let Some(row) = rows[newer].row_of(key) {
         return row;
     }
-    if let Some(row) = rows[older].row_of(&key) {
+    if let Some(row) = rows[older].row_of(key) {
         return row;
     }
     rows[older] = rows[newer];
-    rows[newer].make(uppers, &key)
+    rows[newer].make(uppers, key)
 }

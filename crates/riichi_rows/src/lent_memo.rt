@@ -53,6 +53,6 @@ impl<'a> CutSource for LentMemo<'a> {
 
 impl<'a> RowSource for LentMemo<'a> {
     fn row(&mut self, counts: &[u8; 9], caps: &[u8; 9], runs: bool) -> SuitRow {
-        row_at(self.rows, self.uppers, RowKey::new(counts, caps, runs))
+        row_at(self.rows, self.uppers, &RowKey::new(counts, caps, runs))
     }
 }

@@ -66,7 +66,7 @@ impl RowSource for RowMemo {
         row_at(
             &mut self.rows,
             &mut self.uppers,
-            RowKey::new(counts, caps, runs),
+            &RowKey::new(counts, caps, runs),
         )
     }
 }

@@ -77,7 +77,7 @@ impl RowSource for SuitMemo {
             SuitMemo::InMemory(memo) => memo.row(counts, caps, runs),
             SuitMemo::InValue(few) => {
                 let key = RowKey::new(counts, caps, runs);
-                row_at(&mut few.rows, &mut few.uppers, key)
+                row_at(&mut few.rows, &mut few.uppers, &key)
             }
         }
     }

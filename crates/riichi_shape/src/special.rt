@@ -112,16 +112,14 @@ impl SpecialLacked {
     }
 
     /// The kinds that are lacked by a hand that holds so many of each.
-    #[tactic(auto, using(riichi_tiles::proofs::KindSets::none_below, riichi_tiles::proofs::KindSets::one_more))]
     pub(crate) fn kinds(&self, held: &[u8; 34]) -> KindSet
         ensures { AreKindsOf result (λ kind. special_lacks self.now kind
             (slice_index held.now kind)) }
     {
-        let mut kinds = KindSet::new();
-        for number in 0..34u8 {
-            let kind = Kind::at(number);
-            kinds.insert_if(kind, self.contains(kind, held[number as usize]));
+        let mut lacked = [0; 34];
+        for kind in 0..34usize {
+            lacked[kind] = u8::from(self.contains(Kind::at(kind as u8), held[kind]));
         }
-        kinds
+        KindSet::of(&lacked)
     }
 }
