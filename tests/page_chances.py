@@ -19,8 +19,9 @@ THIRTEEN = "shape 234m45678p34s558s"
 FOURTEEN = "shape 23678m23p1236789s"
 # Two-shanten, of fourteen best discards in many columns.
 WIDE = "shape 44577m23p3356678s"
-# Three-shanten, and slow to count: some seconds.
+# Three-shanten, and slow to count: some tenths of a second. Of the second thirteen tiles.
 FAR = "shape 13459m3677899p27s"
+AS_FAR = "shape 13459m3677899p2s"
 SUMMARY = "#answer .chances summary"
 BUSY = "document.querySelector('#answer .chances [aria-busy]')?.getAttribute('aria-busy')"
 # A row by its draws, of which the most is marked by a star.
@@ -125,9 +126,9 @@ def test_end_of_counting(browser: Browser) -> None:
     waited = "new Promise((done) => setTimeout(() => done(true), 60))"
     browser.run(f"(document.querySelector('{SUMMARY}').click(), {waited})")
     told("it counts", ([False], "true"), (browser.run(begun), browser.run(BUSY)))
-    fill(browser, "line", THIRTEEN)
+    fill(browser, "line", AS_FAR)
     told("another hand ends it, and is counted itself", [True, False], browser.run(begun))
-    fill(browser, "line", "shape 234m45678p34s558")
+    fill(browser, "line", "shape 13459m3677899p2")
     told("a hand that isn't whole ends it", [True, True], browser.run(begun))
     fill(browser, "line", FAR)
     browser.run(f"(document.querySelector('{SUMMARY}').click(), {waited})")
