@@ -1,10 +1,9 @@
 //! Worked lines and their answers.
-use crate::facts::same;
-use desk_core::{Answer, judge};
+use crate::facts::{holds, same};
+use desk_core::judge;
 use desk_json::{JsonText, answer_text, push_refusal, refusal_text};
 use riichi_hand::{Rules, Switch, read_line, read_placed};
 use std::process::Abort;
-use std::test::Fail;
 
 struct Row {
     line: &'static str,
@@ -124,34 +123,25 @@ const REFUSALS: [Row; 13] = [
     },
 ];
 
-fn judged(rules: Rules, line: &str) -> Result<Answer, Fail> {
-    let job = read_line(rules, line.as_bytes())?.ok_or("no record")?;
-    Ok(judge(&job))
-}
-
-fn check(rt: &impl Abort, rules: Rules, row: &Row) -> Result<(), Fail> {
-    same(
-        rt,
-        answer_text(rules, &judged(rules, row.line)?).as_str(),
-        row.text,
-    );
-    Ok(())
+fn check(rt: &impl Abort, rules: Rules, row: &Row) {
+    let Ok(Some(job)) = read_line(rules, row.line.as_bytes()) else {
+        return holds(rt, false);
+    };
+    same(rt, answer_text(rules, &judge(&job)).as_str(), row.text);
 }
 
 #[test]
-fn answers_of_wins(rt: HostRuntime) -> Result<(), Fail> {
+fn answers_of_wins(rt: HostRuntime) {
     for row in &WINS {
-        check(&rt, Rules::One, row)?;
+        check(&rt, Rules::One, row);
     }
-    Ok(())
 }
 
 #[test]
-fn answers_of_hands_and_shapes(rt: HostRuntime) -> Result<(), Fail> {
+fn answers_of_hands_and_shapes(rt: HostRuntime) {
     for row in &HANDS {
-        check(&rt, Rules::One, row)?;
+        check(&rt, Rules::One, row);
     }
-    Ok(())
 }
 
 const HOUSE_RULES: [Row; 4] = [
@@ -175,53 +165,47 @@ const HOUSE_RULES: [Row; 4] = [
 
 /// The answer to a win names the rules of a house, and no others.
 #[test]
-fn rules_of_a_house(rt: HostRuntime) -> Result<(), Fail> {
+fn rules_of_a_house(rt: HostRuntime) {
     let house = Rules::One
         .with(Switch::RedFives, true)
         .with(Switch::Ura, false);
     for row in &HOUSE_RULES {
-        check(&rt, house, row)?;
+        check(&rt, house, row);
     }
     for row in &WINS {
-        check(&rt, Rules::One, row)?;
+        check(&rt, Rules::One, row);
     }
-    Ok(())
 }
 
-fn refused(line: &[u8]) -> Result<JsonText, Fail> {
-    match read_placed(Rules::One, line) {
-        Ok(_) => Err("not refused".into()),
-        Err(refusal) => Ok(refusal_text(line, &refusal)),
-    }
+fn refused(rt: &impl Abort, line: &[u8]) -> JsonText {
+    let refusal = read_placed(Rules::One, line).err();
+    refusal_text(line, &refusal.expect(rt, "a refusal"))
 }
 
 #[test]
-fn what_is_refused(rt: HostRuntime) -> Result<(), Fail> {
+fn what_is_refused(rt: HostRuntime) {
     for row in &REFUSALS {
-        same(&rt, refused(row.line.as_bytes())?.as_str(), row.text);
+        same(&rt, refused(&rt, row.line.as_bytes()).as_str(), row.text);
     }
-    Ok(())
 }
 
 #[test]
-fn lines_that_are_too_long(rt: HostRuntime) -> Result<(), Fail> {
+fn lines_that_are_too_long(rt: HostRuntime) {
     let told =
         "{\"answer\":\"refused\",\"code\":\"H1\",\"words\":\"a line has at most 4096 bytes, all of them printable ASCII\"}";
-    same(&rt, refused(&[b'w'; 4097])?.as_str(), told);
-    same(&rt, refused(&[0; 5000])?.as_str(), told);
-    Ok(())
+    same(&rt, refused(&rt, &[b'w'; 4097]).as_str(), told);
+    same(&rt, refused(&rt, &[0; 5000]).as_str(), told);
 }
 
 #[test]
-fn in_a_text_that_is_kept(rt: HostRuntime) -> Result<(), Fail> {
+fn in_a_text_that_is_kept(rt: HostRuntime) {
     let line = b"waits 8z";
     let Err(refusal) = read_placed(Rules::One, line) else {
-        return Err("not refused")?;
+        return holds(&rt, false);
     };
     let mut text = JsonText::new();
     push_refusal(&mut text, line, &refusal);
     text.clear();
     push_refusal(&mut text, line, &refusal);
-    same(&rt, text.as_str(), refused(line)?.as_str());
-    Ok(())
+    same(&rt, text.as_str(), refused(&rt, line).as_str());
 }

@@ -34,7 +34,7 @@ const SHOWN: [(u64, u64, u64, Option<u64>, &str); 7] = [
 
 #[test]
 fn what_is_shown(rt: HostRuntime) -> Result<(), Fail> {
-    for (lines, millis, done, whole, text) in SHOWN {
+    for &(lines, millis, done, whole, text) in &SHOWN {
         let reached = Reached {
             lines,
             millis,

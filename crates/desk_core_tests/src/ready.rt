@@ -2,12 +2,12 @@ use crate::facts::{holds, holds_in};
 use desk_core::{is_ready, laws};
 use riichi_hand::HandRecord;
 use riichi_tiles::{Kind, Meld, Melds, read_counts};
-use std::test::Fail;
+use std::process::Abort;
 
-fn is_ready_with(tiles: &str, melds: Melds) -> Result<bool, Fail> {
-    let tiles = read_counts(tiles.as_bytes()).ok().ok_or("notation")?;
-    let hand = HandRecord::new(tiles, melds).ok().ok_or("a hand")?;
-    Ok(is_ready(&hand))
+fn is_ready_with(rt: &impl Abort, tiles: &str, melds: Melds) -> bool {
+    let tiles = read_counts(tiles.as_bytes()).ok().expect(rt, "tiles");
+    let hand = HandRecord::new(tiles, melds).ok();
+    is_ready(&hand.expect(rt, "a hand"))
 }
 
 /// Each row is a hand, and whether it is ready.
@@ -23,20 +23,22 @@ static ROWS: [(&str, bool); 7] = [
 ];
 
 #[test]
-fn rows(rt: HostRuntime) -> Result<(), Fail> {
-    for (tiles, ready) in ROWS {
-        holds_in(&rt, &tiles, is_ready_with(tiles, Melds::new())? == ready);
+fn rows(rt: HostRuntime) {
+    for &(tiles, ready) in &ROWS {
+        holds_in(
+            &rt,
+            &tiles,
+            is_ready_with(&rt, tiles, Melds::new()) == ready,
+        );
     }
-    Ok(())
 }
 
 #[test]
-fn the_last_tile_of_its_kind_is_melded(rt: HostRuntime) -> Result<(), Fail> {
+fn the_last_tile_of_its_kind_is_melded(rt: HostRuntime) {
     let mut melds = Melds::new();
     melds.push(Meld::Pon(Kind::at(27)));
-    holds(&rt, !is_ready_with("123456789m1z", melds)?);
-    holds(&rt, is_ready_with("123456789m2z", melds)?);
-    Ok(())
+    holds(&rt, !is_ready_with(&rt, "123456789m1z", melds));
+    holds(&rt, is_ready_with(&rt, "123456789m2z", melds));
 }
 
 #[test]

@@ -1,11 +1,10 @@
 //! Worked wins, and why they are answered so.
-use crate::facts::same;
+use crate::facts::{holds, same};
 use desk_json::JsonText;
 use desk_reasons::push_explained_win;
 use riichi_hand::{Job, Rules, Switch, read_line};
 use riichi_shape::FreshRows;
 use std::process::Abort;
-use std::test::Fail;
 
 /// A line, and of its object what stands behind `"why":`.
 struct Row {
@@ -32,36 +31,36 @@ const WINS: [Row; 4] = [
     },
 ];
 
-fn explained(rules: Rules, line: &str) -> Result<JsonText, Fail> {
-    match read_line(rules, line.as_bytes())?.ok_or("no record")? {
-        Job::Win(win) => {
-            let mut text = JsonText::new();
-            push_explained_win(&mut text, &win, &mut FreshRows);
-            Ok(text)
-        }
-        _ => Err(Fail::from("no win")),
+fn explained(rt: &impl Abort, rules: Rules, line: &str) -> JsonText {
+    let mut text = JsonText::new();
+    match read_line(rules, line.as_bytes()) {
+        Ok(Some(Job::Win(win))) => push_explained_win(&mut text, &win, &mut FreshRows),
+        _ => holds(rt, false),
     }
+    text
 }
 
 #[test]
-fn reasons_of_wins(rt: HostRuntime) -> Result<(), Fail> {
+fn reasons_of_wins(rt: HostRuntime) {
     for row in &WINS {
-        let text = explained(Rules::One, row.line)?;
-        let (_, why) = text.as_str().split_once("\"why\":").ok_or("no reasons")?;
+        let text = explained(&rt, Rules::One, row.line);
+        let (_, why) = text.as_str().split_once("\"why\":").expect(&rt, "reasons");
         same(&rt, why, row.why);
     }
-    Ok(())
 }
 
 /// The rules of a house stand before the reasons.
 #[test]
-fn reasons_under_the_rules_of_a_house(rt: HostRuntime) -> Result<(), Fail> {
+fn reasons_under_the_rules_of_a_house(rt: HostRuntime) {
     let rules = Rules::Two.with(Switch::Ura, false);
-    let text = explained(rules, "win 123456789m22s34p on=9s by=ron seat=S round=E")?;
+    let text = explained(
+        &rt,
+        rules,
+        "win 123456789m22s34p on=9s by=ron seat=S round=E",
+    );
     same(
         &rt,
         text.as_str(),
         "{\"answer\":\"no win\",\"rules\":\"2-ura\",\"why\":{\"waits\":[\"2p\",\"5p\"],\"shanten\":{\"standard\":0,\"seven_pairs\":5,\"thirteen_orphans\":10}}}",
     );
-    Ok(())
 }

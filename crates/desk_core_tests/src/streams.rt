@@ -36,7 +36,7 @@ fn gives_the_bytes_in_pieces(rt: HostRuntime) {
 
 #[test]
 fn fails_at_the_chosen_read(rt: HostRuntime) {
-    for (failing, told) in [(1, ""), (2, "wai"), (3, "waits "), (4, "waits 8z")] {
+    for &(failing, told) in &[(1, ""), (2, "wai"), (3, "waits "), (4, "waits 8z")] {
         let mut reader = BytesIn::new(b"waits 8z", 3, Some(failing));
         let mut kept: BytesOut<16> = BytesOut::new(1000, None);
         holds_in(&rt, &failing, !read_out(&mut reader, &mut kept, 8));

@@ -4,20 +4,20 @@ use desk_games::{DeskFault, GameDesk, games_played};
 use desk_io::BytesIn;
 use riichi_hand::{Rules, Wind};
 use riichi_table::{Player, TableRules};
-use std::test::Fail;
+use std::process::Abort;
 
 /// The text of games behind the last line of a text.
-fn desk_behind(text: &[u8]) -> Result<GameDesk, Fail> {
+fn desk_behind(rt: &impl Abort, text: &[u8]) -> GameDesk {
     let mut reader = BytesIn::new(text, 1000, None);
-    Ok(games_played(Rules::One, &mut reader).ok().ok_or("a desk")?)
+    let desk = games_played(Rules::One, &mut reader).ok();
+    desk.expect(rt, "a desk")
 }
 
 #[test]
-fn the_game_at_hand(rt: HostRuntime) -> Result<(), Fail> {
-    let desk = desk_behind(
-        b"game\ndraw\ngame A B C D table=league\nron B from A 1.30\nchombo C\n",
-    )?;
-    let game = desk.game().ok_or("a game")?;
+fn the_game_at_hand(rt: HostRuntime) {
+    let text = b"game\ndraw\ngame A B C D table=league\nron B from A 1.30\nchombo C\n";
+    let desk = desk_behind(&rt, text);
+    let game = desk.game().expect(&rt, "a game");
     same(&rt, game.names().get(Player::Second).as_str(), "B");
     same(&rt, game.rules(), TableRules::league());
     let progress = game.progress();
@@ -26,16 +26,14 @@ fn the_game_at_hand(rt: HostRuntime) -> Result<(), Fail> {
     same(&rt, progress.state.points.first, 24_000);
     same(&rt, progress.penalties.third, 20_000);
     holds(&rt, !progress.is_over && !game.is_held());
-    Ok(())
 }
 
 #[test]
-fn no_game_to_go_on_with(rt: HostRuntime) -> Result<(), Fail> {
-    holds(&rt, desk_behind(b"draw")?.game().is_none());
-    holds(&rt, desk_behind(b"game A")?.game().is_none());
-    holds(&rt, desk_behind(b"game\ndraw\nwin\n")?.game().is_none());
-    holds(&rt, desk_behind(b"game\nend\n")?.game().is_some());
-    Ok(())
+fn no_game_to_go_on_with(rt: HostRuntime) {
+    holds(&rt, desk_behind(&rt, b"draw").game().is_none());
+    holds(&rt, desk_behind(&rt, b"game A").game().is_none());
+    holds(&rt, desk_behind(&rt, b"game\ndraw\nwin\n").game().is_none());
+    holds(&rt, desk_behind(&rt, b"game\nend\n").game().is_some());
 }
 
 #[test]

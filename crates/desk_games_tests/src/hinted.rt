@@ -1,11 +1,11 @@
 //! Texts of games with hints below the lines that are refused.
+use crate::facts::{holds, same};
 use arrayvec::ArrayVec;
 use desk_game_hints::hinted_games_text;
 use desk_games::{GamesForm, games_text};
 use desk_io::{BytesIn, BytesOut};
 use riichi_hand::Rules;
 use std::process::Abort;
-use std::test::Fail;
 
 /// The most bytes of the answers to a text.
 const ROOM: usize = 8192;
@@ -43,31 +43,27 @@ refused G3
 ";
 
 #[test]
-fn what_to_type_instead(rt: HostRuntime) -> Result<(), Fail> {
+fn what_to_type_instead(rt: HostRuntime) {
     let mut reader = BytesIn::new(TEXT, 1000, None);
     let mut writer: BytesOut<ROOM> = BytesOut::new(1000, None);
     let form = GamesForm::Answers;
     let report = hinted_games_text(Rules::One, false, form, &mut reader, &mut writer);
-    assert_eq!(rt;
-        std::str::from_utf8(writer.bytes()).ok().ok_or("text")?,
-        ANSWERS
-    );
-    report.ok().ok_or("a report")?;
-    is_same_without_hints(&rt, writer.bytes())
+    same(&rt, writer.bytes(), ANSWERS.as_bytes());
+    holds(&rt, report.is_ok());
+    is_same_without_hints(&rt, writer.bytes());
 }
 
 /// The answers without the lines that begin with two spaces are those without hints.
-fn is_same_without_hints(rt: &impl Abort, answers: &[u8]) -> Result<(), Fail> {
+fn is_same_without_hints(rt: &impl Abort, answers: &[u8]) {
     let mut plain: ArrayVec<u8, ROOM> = ArrayVec::new();
     for line in answers.split_inclusive(|byte| *byte == b'\n') {
         if !line.starts_with(b"  ") {
-            plain.try_extend_from_slice(line).ok().ok_or("room")?;
+            holds(rt, plain.try_extend_from_slice(line).is_ok());
         }
     }
     let mut reader = BytesIn::new(TEXT, 1000, None);
     let mut writer: BytesOut<ROOM> = BytesOut::new(1000, None);
     let report = games_text(Rules::One, &mut reader, &mut writer);
-    report.ok().ok_or("a report")?;
-    assert!(rt; writer.bytes() == plain.as_slice());
-    Ok(())
+    holds(rt, report.is_ok());
+    holds(rt, writer.bytes() == plain.as_slice());
 }

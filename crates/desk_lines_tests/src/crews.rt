@@ -56,8 +56,8 @@ fn as_one<H: Threads + Sync + Abort>(
 #[test]
 fn small_texts(rt: HostRuntime) -> Result<(), Fail> {
     let alloc = rt.alloc();
-    for text in [
-        b"".as_slice(),
+    static TEXTS: [&[u8]; 11] = [
+        b"",
         b"\n",
         b"waits 1112345678999m",
         b"waits 1112345678999m\n",
@@ -68,7 +68,8 @@ fn small_texts(rt: HostRuntime) -> Result<(), Fail> {
         b" Rules 2\nwaits 8z\n",
         b"rules 2\n# rules 1\nwaits 8z\n\xEF\xBB\xBFrules 1\nrules 1",
         b"rules 2\nrules 2\nwaits 8z\nwaits 1112345678999m\nshape 123456789m11348p\nwaits 1m",
-    ] {
+    ];
+    for &text in &TEXTS {
         as_one(&rt, alloc, text, 7)?;
     }
     Ok(())
@@ -78,15 +79,15 @@ fn small_texts(rt: HostRuntime) -> Result<(), Fail> {
 #[test]
 fn long_lines(rt: HostRuntime) -> Result<(), Fail> {
     let alloc = rt.alloc();
-    for (len, end) in [
-        (4_096, b"\n".as_slice()),
-        (4_096, b"\r\n"),
-        (4_097, b"\r"),
-        (8_194, b""),
-        (20_000, b"\r\n"),
+    for &(len, end) in &[
+        (4_096, "\n"),
+        (4_096, "\r\n"),
+        (4_097, "\r"),
+        (8_194, ""),
+        (20_000, "\r\n"),
     ] {
         let mut text = long_line(alloc, len)?;
-        text.extend_from_slice(end)?;
+        text.extend_from_slice(end.as_bytes())?;
         let mut later = Vec::new(alloc);
         later.extend_from_slice(b"waits 8z\nwaits 1112345678999m\n")?;
         later.extend_from_slice(text.as_slice())?;
@@ -169,17 +170,17 @@ fn objects(rt: HostRuntime) -> Result<(), Fail> {
 #[test]
 fn one_after_another(rt: HostRuntime) -> Result<(), Fail> {
     let mut crew = Crew::new(rt.alloc(), 3)?;
-    for (text, answers) in [
+    for &(text, answers) in &[
         (
-            b"rules 2\nwin 123406789m22s34p on=2p by=ron seat=S round=E".as_slice(),
-            b"won 4 han 30 fu 8000 gain 8000 pinfu pure-straight dora 1\n".as_slice(),
+            "rules 2\nwin 123406789m22s34p on=2p by=ron seat=S round=E",
+            "won 4 han 30 fu 8000 gain 8000 pinfu pure-straight dora 1\n",
         ),
         (
-            b"win 123406789m22s34p on=2p by=ron seat=S round=E\n",
-            b"won 3 han 30 fu 3900 gain 3900 pinfu pure-straight\n",
+            "win 123406789m22s34p on=2p by=ron seat=S round=E\n",
+            "won 3 han 30 fu 3900 gain 3900 pinfu pure-straight\n",
         ),
     ] {
-        let mut reader = BytesIn::new(text, 10, None);
+        let mut reader = BytesIn::new(text.as_bytes(), 10, None);
         let mut writer: Room = BytesOut::new(1_000, None);
         let told = crew.answer_text::<Plain, HostRuntime, BytesIn, Room>(
             &rt,
@@ -188,7 +189,7 @@ fn one_after_another(rt: HostRuntime) -> Result<(), Fail> {
             &mut writer,
         );
         holds(&rt, told.is_ok());
-        same(&rt, writer.bytes(), answers);
+        same(&rt, writer.bytes(), answers.as_bytes());
     }
     Ok(())
 }

@@ -31,7 +31,7 @@ fn profiles(rt: HostRuntime) {
     const LINE: &str = "win 123406789m22s34p on=2p by=ron seat=S round=E\n";
     const PLAIN: &str = "won 3 han 30 fu 3900 gain 3900 pinfu pure-straight\n";
     const RED: &str = "won 4 han 30 fu 8000 gain 8000 pinfu pure-straight dora 1\n";
-    for (first, told, refused) in [
+    for &(first, told, refused) in &[
         ("", PLAIN, 0),
         ("rules 1\n", PLAIN, 0),
         ("rules 2\n", RED, 0),
@@ -78,19 +78,14 @@ fn the_profile_of_a_line(rt: HostRuntime) {
 
 #[test]
 fn up_to_the_last_line_feed(rt: HostRuntime) {
-    for (text, ended) in [
-        (b"".as_slice(), 0),
-        (b"ab", 0),
-        (b"\n", 1),
-        (b"ab\nc\nd", 5),
-    ] {
-        same(&rt, ended_bytes(text), ended);
+    for &(text, ended) in &[("", 0), ("ab", 0), ("\n", 1), ("ab\nc\nd", 5)] {
+        same(&rt, ended_bytes(text.as_bytes()), ended);
     }
 }
 
 #[test]
 fn lines_up_to_the_limit(rt: HostRuntime) {
-    for (length, ending, told) in [
+    for &(length, ending, told) in &[
         (4096usize, "\r\n", "waits 123456789m\n"),
         (4096, "\n", "waits 123456789m\n"),
         (4096, "\r", "waits 123456789m\n"),
@@ -242,8 +237,8 @@ shanten 0 accepts 2p:4 5p:4 live 8
 /// The first line that looks like a profile line and sets none, with the rules of the others.
 #[test]
 fn the_line_that_sets_no_profile(rt: HostRuntime) {
-    for (text, slip) in [
-        (b"".as_slice(), None),
+    const ROWS: [(&[u8], Option<(u64, Rules)>); 9] = [
+        (b"", None),
         (b"rules 1\nwaits 8z", None),
         (b" rules  2 \r\n# rules 1\nwaits 8z", None),
         (b"rules", Some((1, Rules::One))),
@@ -255,7 +250,8 @@ fn the_line_that_sets_no_profile(rt: HostRuntime) {
         (b"rules 2 # of the club\n", Some((1, Rules::One))),
         (b"                            rule 2", Some((1, Rules::One))),
         (b"                             rule 2", None),
-    ] {
+    ];
+    for &(text, slip) in &ROWS {
         let mut reader = BytesIn::new(text, 7, None);
         let mut writer: BytesOut<256> = BytesOut::new(1000, None);
         let report = desk_text_by::<Plain, SuitMemo, BytesIn, BytesOut<256>>(

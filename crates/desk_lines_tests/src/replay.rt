@@ -202,11 +202,11 @@ fn lines_up_to_the_limit(rt: HostRuntime) {
     replay(&rt, whole.as_slice(), b"table 0\nticket 0\n", 2, 0);
     let longer = padded(b"open east\nsubmit east ", HAND, 4097, b"");
     replay(&rt, longer.as_slice(), b"table 0\nrefused H1\n", 1, 1);
-    for (length, ending) in [(8192, "\n"), (8192, "\r\n"), (8192, "")] {
-        let line = padded(b"", b"open east", length, ending.as_bytes());
+    for &ending in &["\n", "\r\n", ""] {
+        let line = padded(b"", b"open east", 8192, ending.as_bytes());
         replay(&rt, line.as_slice(), b"table 0\n", 1, 0);
     }
-    for (length, ending) in [(8193, "\n"), (8193, ""), (20_000, "\r\n")] {
+    for &(length, ending) in &[(8193, "\n"), (8193, ""), (20_000, "\r\n")] {
         let line = padded(b"", b"open east", length, ending.as_bytes());
         replay(&rt, line.as_slice(), b"refused P1\n", 0, 1);
     }

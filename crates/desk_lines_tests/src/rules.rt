@@ -1,7 +1,7 @@
 //! The words of rules, as answers name them and `--rules` reads them.
 use crate::facts::{holds_in, same_in};
 use riichi_hand::{Rules, Switch, read_rules, rules_words};
-use std::test::Fail;
+use std::process::Abort;
 
 /// What a user types, and how it is named.
 const TYPED: [(&str, &str); 10] = [
@@ -23,20 +23,18 @@ const TYPED: [(&str, &str); 10] = [
     ("2+blessing-of-man-ura", "2-ura+blessing-of-man"),
 ];
 
-fn rules_of(words: &str) -> Result<Rules, Fail> {
-    match read_rules(words.as_bytes()) {
-        Ok(rules) => Ok(rules),
-        Err(_) => Err(Fail::from("words that name no rules")),
-    }
+fn rules_of(rt: &impl Abort, words: &str) -> Rules {
+    read_rules(words.as_bytes())
+        .ok()
+        .expect(rt, "words of rules")
 }
 
 #[test]
-fn words_of_rules(rt: HostRuntime) -> Result<(), Fail> {
-    for (typed, named) in TYPED {
-        let words = rules_words(rules_of(typed)?);
+fn words_of_rules(rt: HostRuntime) {
+    for &(typed, named) in &TYPED {
+        let words = rules_words(rules_of(&rt, typed));
         same_in(&rt, &typed, words.as_str(), named);
     }
-    Ok(())
 }
 
 /// The rules that are on where the bits of a number are.
@@ -51,11 +49,10 @@ fn numbered(number: u32) -> Rules {
 }
 
 #[test]
-fn words_of_every_choice_of_rules_are_read_back(rt: HostRuntime) -> Result<(), Fail> {
+fn words_of_every_choice_of_rules_are_read_back(rt: HostRuntime) {
     for number in 0..4096 {
         let rules = numbered(number);
         let words = rules_words(rules);
-        holds_in(&rt, &number, rules_of(words.as_str())? == rules);
+        holds_in(&rt, &number, rules_of(&rt, words.as_str()) == rules);
     }
-    Ok(())
 }

@@ -5,7 +5,6 @@ use riichi_hand::{Job, Rules, WinRecord, read_line};
 use riichi_score::WinAnswer;
 use riichi_shape::{FormDistances, FreshRows};
 use std::process::Abort;
-use std::test::Fail;
 
 fn text_of(job: &Job) -> ArrayString<4608> {
     match job {
@@ -54,14 +53,13 @@ fn waits_text(kinds: &KindWaits) -> ArrayString<4608> {
     text
 }
 
-pub(crate) fn explains(rt: &impl Abort, rules: Rules, rows: &[(&str, &str)]) -> Result<(), Fail> {
+pub(crate) fn explains(rt: &impl Abort, rules: Rules, rows: &[(&str, &str)]) {
     for (line, text) in rows {
         match read_line(rules, line.as_bytes()) {
             Ok(Some(job)) => same_in(rt, &line, text_of(&job).as_str(), *text),
-            _ => return Err("a line that tells no job")?,
+            _ => holds(rt, false),
         }
     }
-    Ok(())
 }
 
 const RUNS: [(&str, &str); 4] = [
@@ -108,12 +106,12 @@ const RUNS: [(&str, &str); 4] = [
 ];
 
 #[test]
-fn runs(rt: HostRuntime) -> Result<(), Fail> {
-    explains(&rt, Rules::One, &RUNS)
+fn runs(rt: HostRuntime) {
+    explains(&rt, Rules::One, &RUNS);
 }
 
 #[test]
-fn pairs(rt: HostRuntime) -> Result<(), Fail> {
+fn pairs(rt: HostRuntime) {
     explains(
         &rt,
         Rules::One,
@@ -151,11 +149,11 @@ fn pairs(rt: HostRuntime) -> Result<(), Fail> {
 ",
             ),
         ],
-    )
+    );
 }
 
 #[test]
-fn waits_of_one_tile(rt: HostRuntime) -> Result<(), Fail> {
+fn waits_of_one_tile(rt: HostRuntime) {
     explains(
         &rt,
         Rules::One,
@@ -194,7 +192,7 @@ fn waits_of_one_tile(rt: HostRuntime) -> Result<(), Fail> {
 ",
             ),
         ],
-    )
+    );
 }
 
 const TRIPLETS_AND_KONGS: [(&str, &str); 4] = [
@@ -243,8 +241,8 @@ const TRIPLETS_AND_KONGS: [(&str, &str); 4] = [
 ];
 
 #[test]
-fn triplets_and_kongs(rt: HostRuntime) -> Result<(), Fail> {
-    explains(&rt, Rules::One, &TRIPLETS_AND_KONGS)
+fn triplets_and_kongs(rt: HostRuntime) {
+    explains(&rt, Rules::One, &TRIPLETS_AND_KONGS);
 }
 
 const LIMIT_HANDS: [(&str, &str); 7] = [
@@ -322,12 +320,12 @@ const LIMIT_HANDS: [(&str, &str); 7] = [
 ];
 
 #[test]
-fn limit_hands(rt: HostRuntime) -> Result<(), Fail> {
-    explains(&rt, Rules::One, &LIMIT_HANDS)
+fn limit_hands(rt: HostRuntime) {
+    explains(&rt, Rules::One, &LIMIT_HANDS);
 }
 
 #[test]
-fn the_second_profile(rt: HostRuntime) -> Result<(), Fail> {
+fn the_second_profile(rt: HostRuntime) {
     explains(
         &rt,
         Rules::Two,
@@ -355,11 +353,11 @@ fn the_second_profile(rt: HostRuntime) -> Result<(), Fail> {
 ",
             ),
         ],
-    )
+    );
 }
 
 #[test]
-fn dora_of_every_sort(rt: HostRuntime) -> Result<(), Fail> {
+fn dora_of_every_sort(rt: HostRuntime) {
     explains(
         &rt,
         Rules::Two,
@@ -374,11 +372,11 @@ fn dora_of_every_sort(rt: HostRuntime) -> Result<(), Fail> {
   gain    8000
 ",
         )],
-    )
+    );
 }
 
 #[test]
-fn without_yaku(rt: HostRuntime) -> Result<(), Fail> {
+fn without_yaku(rt: HostRuntime) {
     explains(
         &rt,
         Rules::One,
@@ -396,11 +394,11 @@ fn without_yaku(rt: HostRuntime) -> Result<(), Fail> {
                 "  shanten sets and a pair 8, seven pairs 6, thirteen orphans 6\n",
             ),
         ],
-    )
+    );
 }
 
 #[test]
-fn shapes(rt: HostRuntime) -> Result<(), Fail> {
+fn shapes(rt: HostRuntime) {
     explains(
         &rt,
         Rules::One,
@@ -418,11 +416,11 @@ fn shapes(rt: HostRuntime) -> Result<(), Fail> {
                 "  shanten sets and a pair 3, seven pairs -1, thirteen orphans 10\n",
             ),
         ],
-    )
+    );
 }
 
 #[test]
-fn kinds_that_are_waited_for(rt: HostRuntime) -> Result<(), Fail> {
+fn kinds_that_are_waited_for(rt: HostRuntime) {
     explains(
         &rt,
         Rules::One,
@@ -454,17 +452,16 @@ fn kinds_that_are_waited_for(rt: HostRuntime) -> Result<(), Fail> {
                 "  no tile that is left completes the hand\n",
             ),
         ],
-    )
+    );
 }
 
 #[test]
-fn the_answer_that_is_explained(rt: HostRuntime) -> Result<(), Fail> {
+fn the_answer_that_is_explained(rt: HostRuntime) {
     let line = b"win 456m22s34p open=chi:123m,chi:678p on=2p by=ron seat=S round=E";
     match read_line(Rules::One, line) {
         Ok(Some(job)) => holds(&rt, is_without_yaku(&job)),
-        _ => return Err("a line that tells no job")?,
+        _ => holds(&rt, false),
     }
-    Ok(())
 }
 
 fn is_without_yaku(job: &Job) -> bool {
@@ -525,8 +522,8 @@ const OTHERS: [(&str, &str); 6] = [
 ];
 
 #[test]
-fn notes_of_wins(rt: HostRuntime) -> Result<(), Fail> {
-    for (line, wanted) in [
+fn notes_of_wins(rt: HostRuntime) {
+    for &(line, wanted) in &[
         (
             "win 234m567m345p567s9s on=9s by=ron seat=S round=E flags=chankan",
             "  note    this cannot be",
@@ -554,19 +551,17 @@ fn notes_of_wins(rt: HostRuntime) -> Result<(), Fail> {
     ] {
         match read_line(Rules::One, line.as_bytes()) {
             Ok(Some(job)) => holds(&rt, text_of(&job).as_str().starts_with(wanted)),
-            _ => return Err("a line that tells no job")?,
+            _ => holds(&rt, false),
         }
     }
-    Ok(())
 }
 
 #[test]
-fn other_readings_the_best_first(rt: HostRuntime) -> Result<(), Fail> {
-    for (line, text) in OTHERS {
+fn other_readings_the_best_first(rt: HostRuntime) {
+    for &(line, text) in &OTHERS {
         match read_line(Rules::One, line.as_bytes()) {
             Ok(Some(job)) => same_in(&rt, &line, others_text(&job).as_str(), text),
-            _ => return Err("a line that tells no job")?,
+            _ => holds(&rt, false),
         }
     }
-    Ok(())
 }

@@ -1,25 +1,23 @@
-use crate::facts::same;
+use crate::facts::{holds, same};
 use arrayvec::ArrayString;
 use riichi_hand::{LineCode, LineFault, Rules, read_placed};
 use riichi_refusals::*;
 use std::process::Abort;
-use std::test::Fail;
 
 /// Each line is refused, and these lines follow.
-fn refuses(rt: &impl Abort, rows: &[(&[u8], &str)]) -> Result<(), Fail> {
+fn refuses(rt: &impl Abort, rows: &[(&[u8], &str)]) {
     for (line, lines) in rows {
         let Err(refusal) = read_placed(Rules::One, line) else {
-            return Err("a line without a fault")?;
+            return holds(rt, false);
         };
         let mut text = ArrayString::new();
         push_refusal_lines(&mut text, line, &refusal);
         same(rt, text.as_str(), *lines);
     }
-    Ok(())
 }
 
 #[test]
-fn foreign_bytes(rt: HostRuntime) -> Result<(), Fail> {
+fn foreign_bytes(rt: HostRuntime) {
     refuses(
         &rt,
         &[
@@ -52,11 +50,11 @@ fn foreign_bytes(rt: HostRuntime) -> Result<(), Fail> {
                 "  a line has at most 4096 bytes, all of them printable ASCII\n",
             ),
         ],
-    )
+    );
 }
 
 #[test]
-fn words_of_the_line(rt: HostRuntime) -> Result<(), Fail> {
+fn words_of_the_line(rt: HostRuntime) {
     refuses(
         &rt,
         &[
@@ -74,11 +72,11 @@ fn words_of_the_line(rt: HostRuntime) -> Result<(), Fail> {
                 "  on=5s: the second word is the hand, and has no =\n",
             ),
         ],
-    )
+    );
 }
 
 #[test]
-fn words_after_the_hand(rt: HostRuntime) -> Result<(), Fail> {
+fn words_after_the_hand(rt: HostRuntime) {
     refuses(
         &rt,
         &[
@@ -107,11 +105,11 @@ fn words_after_the_hand(rt: HostRuntime) -> Result<(), Fail> {
                 "  seat is missing: a win tells on, by, seat and round\n",
             ),
         ],
-    )
+    );
 }
 
 #[test]
-fn values(rt: HostRuntime) -> Result<(), Fail> {
+fn values(rt: HostRuntime) {
     refuses(
         &rt,
         &[
@@ -134,11 +132,11 @@ fn values(rt: HostRuntime) -> Result<(), Fail> {
                 "  sticks=: sticks are one or two digits\n",
             ),
         ],
-    )
+    );
 }
 
 #[test]
-fn texts_of_tiles(rt: HostRuntime) -> Result<(), Fail> {
+fn texts_of_tiles(rt: HostRuntime) {
     refuses(
         &rt,
         &[
@@ -161,11 +159,11 @@ fn texts_of_tiles(rt: HostRuntime) -> Result<(), Fail> {
             (b"waits m", "  m\n  ^ a digit stands before the letter\n"),
             (b"waits 8z", "  8z\n  ^ honours are 1z to 7z\n"),
         ],
-    )
+    );
 }
 
 #[test]
-fn faults_of_the_record(rt: HostRuntime) -> Result<(), Fail> {
+fn faults_of_the_record(rt: HostRuntime) {
     refuses(
         &rt,
         &[
@@ -202,25 +200,23 @@ fn faults_of_the_record(rt: HostRuntime) -> Result<(), Fail> {
                 "  flags=first: first is a win by tsumo, or under blessing-of-man by ron of any seat but East, without melds, riichi or another flag\n",
             ),
         ],
-    )
+    );
 }
 
 #[test]
-fn words_by_name(rt: HostRuntime) -> Result<(), Fail> {
+fn words_by_name(rt: HostRuntime) {
     let words = fault_words(&LineFault::Line(LineCode::H16));
     same(&rt, words, "a red five is one of the fives");
-    Ok(())
 }
 
 #[test]
-fn what_programs_are_told(rt: HostRuntime) -> Result<(), Fail> {
+fn what_programs_are_told(rt: HostRuntime) {
     let line = b"win 1m by=ron seat=s";
     let Err(refusal) = read_placed(Rules::One, line) else {
-        return Err("a line without a fault")?;
+        return holds(&rt, false);
     };
     same(&rt, refusal_key(&refusal), Some("seat"));
     same(&rt, refusal_words(line, &refusal), "a seat is E, S, W or N");
-    let place = refusal_place(line, &refusal).ok_or("no place")?;
+    let place = refusal_place(line, &refusal).expect(&rt, "a place");
     same(&rt, (place.at, place.length), (14, 6));
-    Ok(())
 }

@@ -3,28 +3,26 @@ use arrayvec::ArrayString;
 use riichi_hand::{Rules, Switch, read_line, read_placed};
 use riichi_hints::{hint_of, push_refusal};
 use std::process::Abort;
-use std::test::Fail;
 
 const WIN: &str = "win 234m567m345p67s99s on=5s by=ron seat=S round=E";
 
 /// Each line is refused, and its hint is this line, which is answered.
-fn hints(rt: &impl Abort, hint: &str, lines: &[&str]) -> Result<(), Fail> {
+fn hints(rt: &impl Abort, hint: &str, lines: &[&str]) {
     holds(rt, read_line(Rules::Two, hint.as_bytes()).is_ok());
     for line in lines {
         holds(rt, read_line(Rules::One, line.as_bytes()).is_err());
         match hint_of(Rules::One, line.as_bytes()) {
             Some(found) => match std::str::from_utf8(found.line.as_slice()) {
                 Ok(text) => same_in(rt, line, text, hint),
-                Err(_) => return Err("a hint that is no text")?,
+                Err(_) => holds(rt, false),
             },
-            None => return Err("a line without a hint")?,
+            None => holds(rt, false),
         }
     }
-    Ok(())
 }
 
 #[test]
-fn hands(rt: HostRuntime) -> Result<(), Fail> {
+fn hands(rt: HostRuntime) {
     hints(
         &rt,
         WIN,
@@ -35,20 +33,20 @@ fn hands(rt: HostRuntime) -> Result<(), Fail> {
             "win 234m567m345p67s99s+5s by=ron seat=S round=E",
             "234m567m345p67s99s on=5s by=ron seat=S round=E",
         ],
-    )?;
-    hints(&rt, "waits 123456m11p11177z", &["waits 123456m11pEEERR"])?;
-    hints(&rt, "shape 123456789m11348p", &["waits 123456789m11348p"])?;
+    );
+    hints(&rt, "waits 123456m11p11177z", &["waits 123456m11pEEERR"]);
+    hints(&rt, "shape 123456789m11348p", &["waits 123456789m11348p"]);
     hints(
         &rt,
         "waits 1112345678999m",
         &[
             "waits \u{1f007}\u{1f007}\u{1f007}\u{1f008}\u{1f009}\u{1f00a}\u{1f00b}\u{1f00c}\u{1f00d}\u{1f00e}\u{1f00f}\u{1f00f}\u{1f00f}",
         ],
-    )
+    );
 }
 
 #[test]
-fn words(rt: HostRuntime) -> Result<(), Fail> {
+fn words(rt: HostRuntime) {
     hints(
         &rt,
         WIN,
@@ -58,7 +56,7 @@ fn words(rt: HostRuntime) -> Result<(), Fail> {
             "win 234m567m345p67s99s on = 5s by = ron seat = S round = E",
             "win 234m567m345p67s99s on=5s ron seat=nan round=ton nice!",
         ],
-    )?;
+    );
     hints(
         &rt,
         "win 234m567m67s99s on=5s by=ron seat=E round=E open=pon:111z counters=2",
@@ -66,18 +64,18 @@ fn words(rt: HostRuntime) -> Result<(), Fail> {
             "win 234m567m67s99s open=111z on=5s by=ron seat=E round=E honba=2",
             "win 234m567m67s99s open=pung:EEE on=5s by=ron seat=E round=E counter=2",
         ],
-    )?;
+    );
     hints(
         &rt,
         "win 234m567m345p67s99s on=5s by=tsumo seat=S round=E riichi=1 flags=ippatsu,last dora=12m",
         &[
             "win 234m567m345p67s99s on=5s by=tsumo seat=S round=E flags=riichi,ippatsu|haitei dora=1m,2m",
         ],
-    )
+    );
 }
 
 #[test]
-fn scripts_and_melds(rt: HostRuntime) -> Result<(), Fail> {
+fn scripts_and_melds(rt: HostRuntime) {
     hints(
         &rt,
         WIN,
@@ -86,7 +84,7 @@ fn scripts_and_melds(rt: HostRuntime) -> Result<(), Fail> {
             "win 234m567m345p67s99s on=5s by=рон seat=Süd round=wschód",
             "win 234m567m345p67s99s on 5s by discard east round south seat",
         ],
-    )?;
+    );
     hints(
         &rt,
         "win 234m567m67s99s on=5s by=ron seat=E round=E open=pon:777z",
@@ -95,18 +93,18 @@ fn scripts_and_melds(rt: HostRuntime) -> Result<(), Fail> {
             "win 234m567m67s99s(777z) on=5s by=ron seat=E round=E",
             "win 234m567m67s99s ポン777z on=5s by=ron seat=E round=E",
         ],
-    )?;
+    );
     hints(
         &rt,
         "win 234567m345p6799s on=0s by=ron seat=S round=E",
         &["win 12,13,14,15,16,17,23,24,25,36,37,39,39 on=53 by=ron seat=S round=E"],
-    )
+    );
 }
 
 /// What may be meant otherwise as well is a guess.
 #[test]
-fn guesses(rt: HostRuntime) -> Result<(), Fail> {
-    for (line, account) in [
+fn guesses(rt: HostRuntime) {
+    for &(line, account) in &[
         (
             "win 234m567m345p67s99s on=5s ron S E",
             " seat=S is a guess. round=E is a guess.",
@@ -116,50 +114,36 @@ fn guesses(rt: HostRuntime) -> Result<(), Fail> {
             " [1111z] is read as open=kan:1111z. open=kan:1111z is a guess.",
         ),
     ] {
-        let Some(hint) = hint_of(Rules::One, line.as_bytes()) else {
-            return Err("a line without a hint")?;
-        };
+        let hint = hint_of(Rules::One, line.as_bytes()).expect(&rt, "a hint");
         holds(&rt, hint.is_guess);
         same(&rt, hint.account.as_slice(), account.as_bytes());
     }
-    Ok(())
+}
+
+/// The hint of a line under these rules.
+fn hints_at(rt: &impl Abort, rules: Rules, line: &str, wanted: &str) {
+    let hint = hint_of(rules, line.as_bytes()).expect(rt, "a hint");
+    same(rt, hint.line.as_slice(), wanted.as_bytes());
 }
 
 /// A win by ron before the own first draw is one where the rules have the blessing of man, of another seat than East.
 #[test]
-fn rules_of_the_line(rt: HostRuntime) -> Result<(), Fail> {
+fn rules_of_the_line(rt: HostRuntime) {
     let south = "win 234m567m345p67s99s on=5s by=Ron seat=S round=E flags=first";
     let east = "win 234m567m345p67s99s on=5s by=Ron seat=E round=E flags=first";
     let blessed = Rules::One.with(Switch::BlessingOfMan, true);
-    for (rules, line, wanted) in [
-        (
-            blessed,
-            south,
-            "win 234m567m345p67s99s on=5s by=ron seat=S round=E flags=first",
-        ),
-        (
-            blessed,
-            east,
-            "win 234m567m345p67s99s on=5s by=tsumo seat=E round=E flags=first",
-        ),
-        (
-            Rules::One,
-            south,
-            "win 234m567m345p67s99s on=5s by=tsumo seat=S round=E flags=first",
-        ),
-    ] {
-        let Some(hint) = hint_of(rules, line.as_bytes()) else {
-            return Err("a line without a hint")?;
-        };
-        same(&rt, hint.line.as_slice(), wanted.as_bytes());
-    }
-    Ok(())
+    let ron = "win 234m567m345p67s99s on=5s by=ron seat=S round=E flags=first";
+    hints_at(&rt, blessed, south, ron);
+    let drawn = "win 234m567m345p67s99s on=5s by=tsumo seat=E round=E flags=first";
+    hints_at(&rt, blessed, east, drawn);
+    let drawn = "win 234m567m345p67s99s on=5s by=tsumo seat=S round=E flags=first";
+    hints_at(&rt, Rules::One, south, drawn);
 }
 
 /// No reading of these lines is answered.
 #[test]
 fn none(rt: HostRuntime) {
-    for line in [
+    for &line in &[
         "waits 12x3m",
         "waits 123456789m111z",
         "waits 11111m23456789m",
@@ -173,8 +157,8 @@ fn none(rt: HostRuntime) {
 }
 
 #[test]
-fn notes(rt: HostRuntime) -> Result<(), Fail> {
-    for (line, lines) in [
+fn notes(rt: HostRuntime) {
+    for &(line, lines) in &[
         (
             "win 111m234m567p678s9s on=9s by=ron seat=S round=E dora=11m",
             "  there are four tiles of a kind in all\n  1m stands 5 times: 3 in the hand, 2 in dora\n",
@@ -185,11 +169,10 @@ fn notes(rt: HostRuntime) -> Result<(), Fail> {
         ),
     ] {
         let Err(refusal) = read_placed(Rules::One, line.as_bytes()) else {
-            return Err("a line without a fault")?;
+            return holds(&rt, false);
         };
         let mut text = ArrayString::new();
         push_refusal(&mut text, Rules::One, line.as_bytes(), &refusal);
         same(&rt, text.as_str(), lines);
     }
-    Ok(())
 }

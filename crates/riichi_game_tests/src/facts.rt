@@ -1,7 +1,23 @@
-//! Words of the tests.
+//! Words of the tests. What they say, that a fact holds and that two values are the same, is proved here once.
+ghost use Rattle.std.specs.Prelude.{◌≡◌, true};
+
 use riichi_game::Progress;
 use riichi_hand::Wind;
 use riichi_table::*;
+use std::fmt::Debug;
+use std::process::Abort;
+
+/// The fact holds.
+pub(crate) fn holds(rt: &impl Abort, fact: bool)
+    ensures { fact ≡ true }
+{
+    assert!(rt; fact);
+}
+
+/// The two values are the same.
+pub(crate) fn same<T: PartialEq + Debug + Drop>(rt: &impl Abort, left: T, right: T) {
+    assert!(rt; left == right, "{left:?} is not {right:?}");
+}
 
 pub(crate) fn by<T>(first: T, second: T, third: T, fourth: T) -> ByPlayer<T> {
     ByPlayer {
@@ -79,4 +95,15 @@ pub(crate) fn last_dealer(round: Wind, points: ByPlayer<i32>) -> Progress {
     progress.state.dealer = Player::Fourth;
     progress.state.points = points;
     progress
+}
+
+/// How far the game has come after an outcome that is accepted.
+pub(crate) fn next(
+    rt: &impl Abort,
+    progress: &Progress,
+    rules: &TableRules,
+    outcome: &Outcome,
+) -> Progress {
+    let after = progress.after(rules, outcome).ok();
+    after.expect(rt, "an accepted outcome")
 }

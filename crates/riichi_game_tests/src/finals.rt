@@ -1,5 +1,5 @@
 //! Final points that were worked by hand.
-use crate::facts::by;
+use crate::facts::{by, same};
 use riichi_hand::Wind;
 use riichi_places::final_points;
 use riichi_table::*;
@@ -34,8 +34,8 @@ fn has_with(
     let finals = final_points(rules, state, &by(first, second, third, fourth));
     let of = [finals.first, finals.second, finals.third, finals.fourth];
     let [one, two, three, four] = of;
-    assert_eq!(rt; [one.place, two.place, three.place, four.place], places);
-    assert_eq!(rt; [one.total, two.total, three.total, four.total], totals);
+    same(rt, [one.place, two.place, three.place, four.place], places);
+    same(rt, [one.total, two.total, three.total, four.total], totals);
 }
 
 /// The second and the third share 5 and -5.

@@ -1,5 +1,5 @@
 //! Rows that a player needs, worked by hand.
-use crate::facts::{by, nobody, only};
+use crate::facts::{by, holds, nobody, only, same};
 use riichi_hand::{By, Rules, Wind};
 use riichi_need::{Question, needs_of, pays_so};
 use riichi_score::Payment;
@@ -30,11 +30,11 @@ fn by_ron(rt: &impl Abort, question: &Question, from: Player, strictly: u32, wit
     let need = needs_of(question).by_ron.get(from);
     let rows = need.map(|need| (need.strictly, need.with_tie));
     let Some((Some(one), Some(other))) = rows else {
-        assert!(rt; false);
+        holds(rt, false);
         return;
     };
-    assert_eq!(rt; one.payment, Payment::Ron { points: strictly });
-    assert_eq!(rt; other.payment, Payment::Ron { points: with_tie });
+    same(rt, one.payment, Payment::Ron { points: strictly });
+    same(rt, other.payment, Payment::Ron { points: with_tie });
 }
 
 /// Off the second 3200 ties and 3600 wins, off another 6400 is not enough and 7100 wins, each with 300 for the counter; by
@@ -46,18 +46,20 @@ fn for_the_first_place(rt: HostRuntime) {
     by_ron(&rt, &question, Player::First, 7400, 7400);
     by_ron(&rt, &question, Player::Fourth, 7400, 7400);
     let needs = needs_of(&question);
-    assert!(rt; needs.by_ron.third.is_none());
+    holds(&rt, needs.by_ron.third.is_none());
     let payment = Payment::Tsumo {
         other: 1600,
         dealer: 3000,
     };
-    assert_eq!(rt;
+    same(
+        &rt,
         needs.by_tsumo.strictly.map(|row| row.payment),
-        Some(payment)
+        Some(payment),
     );
-    assert_eq!(rt;
+    same(
+        &rt,
         needs.by_tsumo.with_tie.map(|row| row.payment),
-        Some(payment)
+        Some(payment),
     );
 }
 
@@ -89,20 +91,20 @@ fn least_row_and_none(rt: HostRuntime) {
     by_ron(&rt, &ahead, Player::Second, 1300, 1300);
     let behind = question([20000, 80000, 9000, 10000]);
     let needs = needs_of(&behind);
-    assert!(rt; needs.by_tsumo.with_tie.is_none());
+    holds(&rt, needs.by_tsumo.with_tie.is_none());
     let off_second = needs.by_ron.second.map(|need| need.with_tie.is_some());
-    assert_eq!(rt; off_second, Some(false));
+    same(&rt, off_second, Some(false));
 }
 
 /// 3200 by ron is 1.100, 2.50 and seven pairs with three han.
 #[test]
 fn hands_of_a_row(rt: HostRuntime) {
     let rules = Rules::One;
-    assert!(rt; pays_so(rules, By::Ron, 800, 1, 100));
-    assert!(rt; pays_so(rules, By::Ron, 800, 2, 50));
-    assert!(rt; pays_so(rules, By::Ron, 800, 3, 25));
-    assert!(rt; !pays_so(rules, By::Ron, 800, 4, 50));
-    assert!(rt; !pays_so(rules, By::Tsumo, 400, 2, 25));
+    holds(&rt, pays_so(rules, By::Ron, 800, 1, 100));
+    holds(&rt, pays_so(rules, By::Ron, 800, 2, 50));
+    holds(&rt, pays_so(rules, By::Ron, 800, 3, 25));
+    holds(&rt, !pays_so(rules, By::Ron, 800, 4, 50));
+    holds(&rt, !pays_so(rules, By::Tsumo, 400, 2, 25));
 }
 
 /// What the fourth needs for the second place, with two counters and a stick: 27000 + 1600 and what is paid, `p`.
@@ -134,8 +136,9 @@ fn for_the_second_place(rt: HostRuntime) {
         dealer: 1400,
     };
     let needs = needs_of(&asked);
-    assert_eq!(rt;
+    same(
+        &rt,
         needs.by_tsumo.strictly.map(|row| row.payment),
-        Some(payment)
+        Some(payment),
     );
 }

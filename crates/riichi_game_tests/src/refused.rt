@@ -12,7 +12,7 @@ fn refuses(
     outcome: Outcome,
     fault: OutcomeFault,
 ) {
-    assert_eq!(rt; progress.after(rules, &outcome), Err(fault));
+    same(rt, progress.after(rules, &outcome), Err(fault));
 }
 
 #[test]
@@ -64,7 +64,7 @@ fn draws_and_bets(rt: HostRuntime) {
     };
     let online = TableRules::online();
     refuses(&rt, &poor, &online, bet, OutcomeFault::BetOfTooFew);
-    assert!(rt; poor.after(&club, &bet).is_ok());
+    holds(&rt, poor.after(&club, &bet).is_ok());
     refuses(
         &rt,
         &with(99, 0),
@@ -85,7 +85,7 @@ fn written_states(rt: HostRuntime) {
     refuses(&rt, &start, &club, wrong, OutcomeFault::StandsSum);
     state.points.first = 29000;
     let right = Outcome::Stands { state };
-    assert!(rt; start.after(&club, &right).is_ok());
+    holds(&rt, start.after(&club, &right).is_ok());
     state.round = Wind::West;
     let west = Outcome::Stands { state };
     refuses(&rt, &start, &club, west, OutcomeFault::StandsRound);

@@ -5,7 +5,6 @@ use riichi_hand::Wind;
 use riichi_settle::{Move, Reason, Taking, changes_by, moves_of, settle};
 use riichi_table::*;
 use std::process::Abort;
-use std::test::Fail;
 
 /// That a deal changes the points so, and leaves so many sticks.
 fn changes(
@@ -17,8 +16,8 @@ fn changes(
     sticks: u16,
 ) {
     let changes = settle(&progress.state, rules, outcome);
-    assert_eq!(rt; changes.points, points);
-    assert_eq!(rt; changes.sticks, sticks);
+    same(rt, changes.points, points);
+    same(rt, changes.sticks, sticks);
 }
 
 /// The second player wins 1 han 30 fu off the third; the first and the second are ready, and the first has declared; the fourth
@@ -35,21 +34,21 @@ fn three_deals(rt: HostRuntime) {
     let third = tsumo(Player::Fourth, plain(480));
     let start = Progress::first(&rules);
     let one = after_all(&start, &rules, &[first]);
-    assert_eq!(rt; one.state.points, by(30000, 31000, 29000, 30000));
-    assert_eq!(rt; one.state.dealer, Player::Second);
-    assert_eq!(rt; one.state.counters, 0);
+    same(&rt, one.state.points, by(30000, 31000, 29000, 30000));
+    same(&rt, one.state.dealer, Player::Second);
+    same(&rt, one.state.counters, 0);
     let two = after_all(&start, &rules, &[first, second]);
-    assert_eq!(rt; two.state.points, by(30500, 32500, 27500, 28500));
-    assert_eq!(rt; two.state.dealer, Player::Second);
-    assert_eq!(rt; two.state.counters, 1);
-    assert_eq!(rt; two.state.sticks, 1);
+    same(&rt, two.state.points, by(30500, 32500, 27500, 28500));
+    same(&rt, two.state.dealer, Player::Second);
+    same(&rt, two.state.counters, 1);
+    same(&rt, two.state.sticks, 1);
     let three = after_all(&start, &rules, &[first, second, third]);
-    assert_eq!(rt; three.state.points, by(29900, 31400, 26900, 31800));
-    assert_eq!(rt; three.state.dealer, Player::Third);
-    assert_eq!(rt; three.state.round, Wind::East);
-    assert_eq!(rt; three.state.counters, 0);
-    assert_eq!(rt; three.state.sticks, 0);
-    assert_eq!(rt; three.is_over, false);
+    same(&rt, three.state.points, by(29900, 31400, 26900, 31800));
+    same(&rt, three.state.dealer, Player::Third);
+    same(&rt, three.state.round, Wind::East);
+    same(&rt, three.state.counters, 0);
+    same(&rt, three.state.sticks, 0);
+    same(&rt, three.is_over, false);
 }
 
 /// The second player, who has bet, wins 1 han 30 fu off the third, with two counters and a stick: the bet, the hand, the counters, and
@@ -86,8 +85,8 @@ fn moves_of_a_win(rt: HostRuntime) {
             why: Taking::Winner,
         },
     ];
-    assert_eq!(rt; moves.as_slice(), wanted.as_slice());
-    assert_eq!(rt; changes_by(1, &moves).sticks, 0);
+    same(&rt, moves.as_slice(), wanted.as_slice());
+    same(&rt, changes_by(1, &moves).sticks, 0);
 }
 
 /// The dealer, who has bet, with 1 han 40 fu and the second player with 1 han 30 fu win off the third, with two counters and a
@@ -161,7 +160,7 @@ fn draws(rt: HostRuntime) {
 
 /// A nagashi mangan of the dealer, who is ready or not, with two counters.
 #[test]
-fn nagashi(rt: HostRuntime) -> Result<(), Fail> {
+fn nagashi(rt: HostRuntime) {
     let before = with(2, 0);
     let mut rules = TableRules::club();
     rules.nagashi = true;
@@ -178,32 +177,31 @@ fn nagashi(rt: HostRuntime) -> Result<(), Fail> {
         by(12000, -4000, -4000, -4000),
         0,
     );
-    let after = before.after(&rules, &unready).ok().ok_or("nagashi")?;
-    assert_eq!(rt; after.state.counters, 3);
-    assert_eq!(rt; after.state.dealer, Player::Second);
+    let after = next(&rt, &before, &rules, &unready);
+    same(&rt, after.state.counters, 3);
+    same(&rt, after.state.dealer, Player::Second);
     let ready = Outcome::Draw {
         ready: only(Player::First),
         nagashi: only(Player::First),
         riichi: nobody(),
     };
-    let after = before.after(&rules, &ready).ok().ok_or("ready")?;
-    assert_eq!(rt; after.state.points, by(42000, 26000, 26000, 26000));
-    assert_eq!(rt; after.state.dealer, Player::First);
-    Ok(())
+    let after = next(&rt, &before, &rules, &ready);
+    same(&rt, after.state.points, by(42000, 26000, 26000, 26000));
+    same(&rt, after.state.dealer, Player::First);
 }
 
 #[test]
-fn abortive_draws(rt: HostRuntime) -> Result<(), Fail> {
+fn abortive_draws(rt: HostRuntime) {
     let start = with(0, 0);
     let club = TableRules::club();
     let four_bets = Outcome::Abort {
         riichi: ByPlayer::all(true),
     };
-    let after = start.after(&club, &four_bets).ok().ok_or("four bets")?;
-    assert_eq!(rt; after.state.points, ByPlayer::all(29000));
-    assert_eq!(rt; after.state.sticks, 4);
-    assert_eq!(rt; after.state.counters, 1);
-    assert_eq!(rt; after.state.dealer, Player::First);
+    let after = next(&rt, &start, &club, &four_bets);
+    same(&rt, after.state.points, ByPlayer::all(29000));
+    same(&rt, after.state.sticks, 4);
+    same(&rt, after.state.counters, 1);
+    same(&rt, after.state.dealer, Player::First);
     let mut two = club;
     two.ron = SeveralWinners::Two;
     let win = Some(plain(240));
@@ -212,35 +210,33 @@ fn abortive_draws(rt: HostRuntime) -> Result<(), Fail> {
         wins: by(win, win, win, None),
         riichi: nobody(),
     };
-    let after = start.after(&two, &three).ok().ok_or("three winners")?;
-    assert_eq!(rt; after.state.points, ByPlayer::all(30000));
-    assert_eq!(rt; after.state.counters, 1);
-    assert_eq!(rt; after.state.dealer, Player::First);
-    Ok(())
+    let after = next(&rt, &start, &two, &three);
+    same(&rt, after.state.points, ByPlayer::all(30000));
+    same(&rt, after.state.counters, 1);
+    same(&rt, after.state.dealer, Player::First);
 }
 
 #[test]
-fn chombo_and_penalty(rt: HostRuntime) -> Result<(), Fail> {
+fn chombo_and_penalty(rt: HostRuntime) {
     let before = with(2, 1);
     let club = TableRules::club();
     let third = Outcome::Chombo {
         player: Player::Third,
     };
-    let after = before.after(&club, &third).ok().ok_or("points")?;
-    assert_eq!(rt; after.state, before.state);
-    assert_eq!(rt; after.penalties, by(0, 0, 20000, 0));
+    let after = next(&rt, &before, &club, &third);
+    same(&rt, after.state, before.state);
+    same(&rt, after.penalties, by(0, 0, 20000, 0));
     let penalty = Outcome::Penalty {
         player: Player::Third,
         points: 8000,
     };
-    let after = after.after(&club, &penalty).ok().ok_or("penalty")?;
-    assert_eq!(rt; after.penalties, by(0, 0, 28000, 0));
+    let after = next(&rt, &after, &club, &penalty);
+    same(&rt, after.penalties, by(0, 0, 28000, 0));
     let mut mangan = club;
     mangan.chombo = ChomboCost::Mangan;
-    let after = before.after(&mangan, &third).ok().ok_or("mangan")?;
-    assert_eq!(rt; after.state.points, by(34000, 32000, 22000, 32000));
-    assert_eq!(rt; after.state.counters, 2);
-    assert_eq!(rt; after.state.sticks, 1);
-    assert_eq!(rt; after.penalties, ByPlayer::all(0));
-    Ok(())
+    let after = next(&rt, &before, &mangan, &third);
+    same(&rt, after.state.points, by(34000, 32000, 22000, 32000));
+    same(&rt, after.state.counters, 2);
+    same(&rt, after.state.sticks, 1);
+    same(&rt, after.penalties, ByPlayer::all(0));
 }

@@ -4,12 +4,11 @@ use riichi_game::*;
 use riichi_hand::{By, Job, Rules, Switch, WinRecord, Wind, read_line};
 use riichi_table::*;
 use std::process::Abort;
-use std::test::Fail;
 
 fn has(rt: &impl Abort, by: By, han: u8, fu: u8, base: Option<u16>) {
     let rules = Rules::One;
     let worth = base.map(|base| Worth::Counted { base });
-    assert_eq!(rt; counted_worth(rules, by, han, fu), worth);
+    same(rt, counted_worth(rules, by, han, fu), worth);
 }
 
 #[test]
@@ -37,13 +36,18 @@ fn limits(rt: HostRuntime) {
         .with(Switch::AddYakuman, true)
         .with(Switch::DoubleYakuman, true);
     let two = LimitHand::Yakuman { limits: 2 };
-    assert_eq!(rt;
+    same(
+        &rt,
         limit_worth(one, LimitHand::Haneman),
-        Some(Worth::Counted { base: 3000 })
+        Some(Worth::Counted { base: 3000 }),
     );
-    assert_eq!(rt; limit_worth(one, two), None);
-    assert_eq!(rt; limit_worth(both, two), Some(Worth::Yakuman { limits: 2 }));
-    assert_eq!(rt; most_limits(both), 6);
+    same(&rt, limit_worth(one, two), None);
+    same(
+        &rt,
+        limit_worth(both, two),
+        Some(Worth::Yakuman { limits: 2 }),
+    );
+    same(&rt, most_limits(both), 6);
 }
 
 /// The record of a hand that the first player wins by ron, with two counters and a stick.
@@ -60,14 +64,13 @@ fn won_by_first(job: &Job) -> Option<WinRecord> {
 
 /// A hand of 1 han 30 fu, which is written as South's, is read as that of the seat and the counters of the table.
 #[test]
-fn hands(rt: HostRuntime) -> Result<(), Fail> {
-    let line = "win 234m567m345p67s99s on=5s by=ron seat=S round=E";
-    let job = read_line(Rules::One, line.as_bytes())
-        .ok()
-        .ok_or("a fault")?;
-    let win = won_by_first(&job.ok_or("no job")?).ok_or("no win")?;
-    assert_eq!(rt; win.seat(), Wind::East);
-    assert_eq!(rt; win.counters(), 2);
-    assert_eq!(rt; worth_of_win(&win), Ok(Worth::Counted { base: 240 }));
-    Ok(())
+fn hands(rt: HostRuntime) {
+    let line = b"win 234m567m345p67s99s on=5s by=ron seat=S round=E";
+    let Ok(Some(job)) = read_line(Rules::One, line) else {
+        return holds(&rt, false);
+    };
+    let win = won_by_first(&job).expect(&rt, "a win");
+    same(&rt, win.seat(), Wind::East);
+    same(&rt, win.counters(), 2);
+    same(&rt, worth_of_win(&win), Ok(Worth::Counted { base: 240 }));
 }

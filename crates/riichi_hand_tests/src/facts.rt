@@ -14,24 +14,7 @@ pub(crate) fn holds(rt: &impl Abort, fact: bool)
     assert!(rt; fact);
 }
 
-/// The fact holds in this row of a table.
-pub(crate) fn holds_in<R: Debug>(rt: &impl Abort, row: &R, fact: bool)
-    ensures { fact ≡ true }
-{
-    assert!(rt; fact, "{row:?}");
-}
-
 /// The two values are the same.
 pub(crate) fn same<T: PartialEq + Debug + Drop>(rt: &impl Abort, left: T, right: T) {
     assert!(rt; left == right, "{left:?} is not {right:?}");
-}
-
-/// The two values are the same in this row of a table.
-pub(crate) fn same_in<R: Debug, T: PartialEq + Debug + Drop>(
-    rt: &impl Abort,
-    row: &R,
-    left: T,
-    right: T,
-) {
-    assert!(rt; left == right, "{row:?}: {left:?} is not {right:?}");
 }

@@ -31,13 +31,13 @@ fn tells_bytes_and_cuts_words(rt: HostRuntime) {
         &rt,
         has_other_byte(b"1\tm") && !has_other_byte(b"1m 2p") && !has_other_byte(b""),
     );
-    let rows: [(&[u8], &[u8], usize); 4] = [
+    static ROWS: [(&[u8], &[u8], usize); 4] = [
         (b"", b"", 0),
         (b"   ", b"", 0),
         (b"win 1m", b"win 1m", 3),
         (b"  waits", b"waits", 5),
     ];
-    for (text, rest, len) in rows {
+    for &(text, rest, len) in &ROWS {
         same(&rt, without_spaces(text), rest);
         same(&rt, word_len(rest), len);
     }
@@ -567,13 +567,13 @@ fn answers_foreign_bytes(rt: HostRuntime) {
 
 #[test]
 fn answers_lines_of_any_length(rt: HostRuntime) {
-    let rows: [(&[u8], u8); 4] = [
+    static ROWS: [(&[u8], u8); 4] = [
         (b"", b'-'),
         (b"#", b'-'),
         (b"# \xff", b'-'),
         (b"waits 1112345678999m", b'J'),
     ];
-    for (front, mark) in rows {
+    for &(front, mark) in &ROWS {
         padded(&rt, front, mark);
     }
 }
@@ -615,7 +615,7 @@ fn reds_of_win(rules: Rules, line: &[u8]) -> Option<u8> {
 
 #[test]
 fn keeps_reds_under_the_second_profile(rt: HostRuntime) {
-    let rows: [(&[u8], u8); 5] = [
+    static ROWS: [(&[u8], u8); 5] = [
         (b"win 234m567m345p67s99s on=5s by=ron seat=S round=E", 0),
         (b"win 123406789m22s34p on=2p by=ron seat=S round=E", 1),
         (b"win 234m067m345p67s99s on=0s by=ron seat=S round=E", 2),
@@ -628,7 +628,7 @@ fn keeps_reds_under_the_second_profile(rt: HostRuntime) {
             0,
         ),
     ];
-    for (line, reds) in rows {
+    for &(line, reds) in &ROWS {
         same(&rt, reds_of_win(Rules::One, line), Some(0));
         same(&rt, reds_of_win(Rules::Two, line), Some(reds));
     }

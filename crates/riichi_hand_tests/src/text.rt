@@ -2,6 +2,7 @@ use crate::facts::same;
 use arrayvec::ArrayString;
 use riichi_text::*;
 use riichi_tiles::{Block, Kind, Meld};
+use std::process::Abort;
 
 #[test]
 fn pushes_numbers_and_kinds(rt: HostRuntime) {
@@ -24,27 +25,27 @@ fn pushes_numbers_and_kinds(rt: HostRuntime) {
     }
 }
 
+/// A block is written so.
+fn block_is(rt: &impl Abort, block: &Block, wanted: &str) {
+    let mut text: ArrayString<16> = ArrayString::new();
+    push_block(&mut text, block);
+    same(rt, text.as_str(), wanted);
+}
+
+/// A meld is written so.
+fn meld_is(rt: &impl Abort, meld: &Meld, wanted: &str) {
+    let mut text: ArrayString<16> = ArrayString::new();
+    push_meld(&mut text, meld);
+    same(rt, text.as_str(), wanted);
+}
+
 #[test]
 fn pushes_blocks_and_melds(rt: HostRuntime) {
-    let rows = [
-        (Block::Run(Kind::at(24)), "789s"),
-        (Block::Triplet(Kind::at(27)), "111z"),
-        (Block::Pair(Kind::at(13)), "55p"),
-    ];
-    for (block, wanted) in rows {
-        let mut text: ArrayString<16> = ArrayString::new();
-        push_block(&mut text, &block);
-        same(&rt, text.as_str(), wanted);
-    }
-    let rows = [
-        (Meld::Chi(Kind::at(2)), "chi:345m"),
-        (Meld::Pon(Kind::at(33)), "pon:777z"),
-        (Meld::Kan(Kind::at(8)), "kan:9999m"),
-        (Meld::Ankan(Kind::at(18)), "ankan:1111s"),
-    ];
-    for (meld, wanted) in rows {
-        let mut text: ArrayString<16> = ArrayString::new();
-        push_meld(&mut text, &meld);
-        same(&rt, text.as_str(), wanted);
-    }
+    block_is(&rt, &Block::Run(Kind::at(24)), "789s");
+    block_is(&rt, &Block::Triplet(Kind::at(27)), "111z");
+    block_is(&rt, &Block::Pair(Kind::at(13)), "55p");
+    meld_is(&rt, &Meld::Chi(Kind::at(2)), "chi:345m");
+    meld_is(&rt, &Meld::Pon(Kind::at(33)), "pon:777z");
+    meld_is(&rt, &Meld::Kan(Kind::at(8)), "kan:9999m");
+    meld_is(&rt, &Meld::Ankan(Kind::at(18)), "ankan:1111s");
 }

@@ -1,10 +1,15 @@
-use crate::facts::{holds, holds_in, same, same_in};
+use crate::facts::{holds, same};
 use riichi_tiles::*;
-use std::test::Fail;
+use std::process::Abort;
+
+/// The tiles of a text.
+fn counts_of(rt: &impl Abort, text: &[u8]) -> Counts {
+    read_counts(text).ok().expect(rt, "a text of tiles")
+}
 
 #[test]
 fn tells_the_first_fault_of_a_text(rt: HostRuntime) {
-    let rows: [(&[u8], NotationCode, usize); 15] = [
+    static ROWS: [(&[u8], NotationCode, usize); 15] = [
         (b"", NotationCode::N1, 0),
         (b"12x3m", NotationCode::N2, 2),
         (b"9x2z", NotationCode::N2, 1),
@@ -21,7 +26,7 @@ fn tells_the_first_fault_of_a_text(rt: HostRuntime) {
         (b"1111m2m1m8z", NotationCode::N6, 7),
         (b"8z11111m", NotationCode::N5, 0),
     ];
-    for (text, code, place) in rows {
+    for &(text, code, place) in &ROWS {
         same(&rt, read_counts(text), Err(NotationFault { code, place }));
     }
 }
@@ -42,23 +47,24 @@ fn reads_into_empty_counts(rt: HostRuntime) {
 }
 
 #[test]
-fn tells_which_kinds_are_held(rt: HostRuntime) -> Result<(), Fail> {
-    let counts = read_counts(b"119m7z").ok().ok_or("a text of tiles")?;
+fn tells_which_kinds_are_held(rt: HostRuntime) {
+    let counts = counts_of(&rt, b"119m7z");
     let held = KindSet::of(counts.as_array());
     same(&rt, (held.first_from(0), held.first_from(1)), (0, 8));
     same(&rt, (held.first_from(9), held.first_from(34)), (33, 34));
-    let [characters, circles, _, honours] = Suit::ALL.map(|suit| KindSet::of_suit(suit));
+    let characters = KindSet::of_suit(Suit::Characters);
+    let circles = KindSet::of_suit(Suit::Circles);
+    let honours = KindSet::of_suit(Suit::Honours);
     same(&rt, (circles.first_from(0), circles.len()), (9, 9));
     same(&rt, (honours.first_from(0), honours.len()), (27, 7));
     holds(&rt, held.is_disjoint(circles) && !held.is_disjoint(honours));
     holds(&rt, characters.either(honours).is_superset(held));
     holds(&rt, !characters.is_superset(held));
-    Ok(())
 }
 
 #[test]
-fn writes_what_it_reads(rt: HostRuntime) -> Result<(), Fail> {
-    let rows: [(&[u8], &str, u8); 6] = [
+fn writes_what_it_reads(rt: HostRuntime) {
+    static ROWS: [(&[u8], &str, u8); 6] = [
         (b"1112345678999m", "1112345678999m", 13),
         (b"123456789m1111z", "123456789m1111z", 13),
         (b"0s", "5s", 1),
@@ -66,8 +72,8 @@ fn writes_what_it_reads(rt: HostRuntime) -> Result<(), Fail> {
         (b"3m2m1m", "123m", 3),
         (b"1z2p3m4s4m4p", "34m24p4s1z", 6),
     ];
-    for (text, written, total) in rows {
-        let counts = read_counts(text).ok().ok_or("a text of tiles")?;
+    for &(text, written, total) in &ROWS {
+        let counts = counts_of(&rt, text);
         same(&rt, counts.total(), total);
         same(&rt, write_counts(&counts).as_str(), written);
         same(&rt, read_counts(written.as_bytes()), Ok(counts));
@@ -75,16 +81,11 @@ fn writes_what_it_reads(rt: HostRuntime) -> Result<(), Fail> {
     let none = Counts::new();
     same(&rt, write_counts(&none).as_str(), "");
     same(&rt, none.lowest(), None);
-    same(
-        &rt,
-        read_counts(b"7z9p").map(|counts| counts.lowest()),
-        Ok(Some(Kind::at(17))),
-    );
+    same(&rt, counts_of(&rt, b"7z9p").lowest(), Some(Kind::at(17)));
     holds(
         &rt,
         is_digit(b'0') && is_digit(b'9') && !is_digit(b'/') && !is_digit(b':'),
     );
-    Ok(())
 }
 
 #[test]
@@ -119,40 +120,48 @@ fn counts_the_whole_wall(rt: HostRuntime) {
     same(&rt, red.index(), 33);
 }
 
+/// The text is this meld.
+fn reads(rt: &impl Abort, text: &[u8], meld: Meld) {
+    same(rt, Meld::read(text), Some(meld));
+}
+
 #[test]
 fn reads_melds(rt: HostRuntime) {
-    let rows: [(&[u8], Option<Meld>); 22] = [
-        (b"chi:123m", Some(Meld::Chi(Kind::at(0)))),
-        (b"chi:340m", Some(Meld::Chi(Kind::at(2)))),
-        (b"chi:534p", Some(Meld::Chi(Kind::at(11)))),
-        (b"chi:987s", Some(Meld::Chi(Kind::at(24)))),
-        (b"pon:1z1z1z", Some(Meld::Pon(Kind::at(27)))),
-        (b"pon:055m", Some(Meld::Pon(Kind::at(4)))),
-        (b"kan:7777z", Some(Meld::Kan(Kind::at(33)))),
-        (b"ankan:11z11z", Some(Meld::Ankan(Kind::at(27)))),
-        (b"pon:112z", None),
-        (b"chi:890m", None),
-        (b"chi:89m1p", None),
-        (b"chi:123z", None),
-        (b"chi:12m", None),
-        (b"chi:1234m", None),
-        (b"pon:1111z", None),
-        (b"kan:111z", None),
-        (b"ankan:", None),
-        (b"pon:111", None),
-        (b"Pon:111z", None),
-        (b"pon:111z ", None),
-        (b"chi", None),
-        (b"123m", None),
-    ];
-    for (text, meld) in rows {
-        same(&rt, Meld::read(text), meld);
+    reads(&rt, b"chi:123m", Meld::Chi(Kind::at(0)));
+    reads(&rt, b"chi:340m", Meld::Chi(Kind::at(2)));
+    reads(&rt, b"chi:534p", Meld::Chi(Kind::at(11)));
+    reads(&rt, b"chi:987s", Meld::Chi(Kind::at(24)));
+    reads(&rt, b"pon:1z1z1z", Meld::Pon(Kind::at(27)));
+    reads(&rt, b"pon:055m", Meld::Pon(Kind::at(4)));
+    reads(&rt, b"kan:7777z", Meld::Kan(Kind::at(33)));
+    reads(&rt, b"ankan:11z11z", Meld::Ankan(Kind::at(27)));
+}
+
+#[test]
+fn reads_no_melds(rt: HostRuntime) {
+    for &text in &[
+        "pon:112z",
+        "chi:890m",
+        "chi:89m1p",
+        "chi:123z",
+        "chi:12m",
+        "chi:1234m",
+        "pon:1111z",
+        "kan:111z",
+        "ankan:",
+        "pon:111",
+        "Pon:111z",
+        "pon:111z ",
+        "chi",
+        "123m",
+    ] {
+        same(&rt, Meld::read(text.as_bytes()), None);
     }
 }
 
 #[test]
 fn indicates_dora(rt: HostRuntime) {
-    let rows = [
+    static ROWS: [(u8, u8); 13] = [
         (0, 1),
         (4, 5),
         (8, 0),
@@ -167,19 +176,15 @@ fn indicates_dora(rt: HostRuntime) {
         (32, 33),
         (33, 31),
     ];
-    for (indicator, dora) in rows {
-        same_in(
-            &rt,
-            &indicator,
-            Kind::new(indicator).map(|kind| dora_of(kind)),
-            Kind::new(dora),
-        );
+    for &(indicator, dora) in &ROWS {
+        let kind = Kind::new(indicator).expect(&rt, "a kind");
+        same(&rt, dora_of(kind).index(), usize::from(dora));
     }
 }
 
 #[test]
-fn counts_red_fives(rt: HostRuntime) -> Result<(), Fail> {
-    let rows: [(&[u8], [u8; 3]); 6] = [
+fn counts_red_fives(rt: HostRuntime) {
+    static ROWS: [(&[u8], [u8; 3]); 6] = [
         (b"123406789m22s34p", [1, 0, 0]),
         (b"234m067m345p67s99s", [1, 0, 0]),
         (b"0055p0s", [0, 2, 1]),
@@ -187,8 +192,7 @@ fn counts_red_fives(rt: HostRuntime) -> Result<(), Fail> {
         (b"5m5p5s", [0, 0, 0]),
         (b"0", [0, 0, 0]),
     ];
-    for (text, wanted) in rows {
-        let [characters, circles, bamboos] = wanted;
+    for &(text, [characters, circles, bamboos]) in &ROWS {
         same(
             &rt,
             Some(reds_of(text)),
@@ -198,26 +202,21 @@ fn counts_red_fives(rt: HostRuntime) -> Result<(), Fail> {
     same(&rt, Reds::new(5, 0, 0), None);
     same(&rt, Reds::new(0, 5, 0), None);
     same(&rt, Reds::new(0, 0, 5), None);
-    let reds = Reds::new(4, 1, 2).ok_or("at most four of each")?;
+    let reds = Reds::new(4, 1, 2).expect(&rt, "at most four of each");
     let both = reds.joined(&reds_of(b"0p0s"));
     same(&rt, [both.get(0), both.get(1), both.get(2)], [4, 2, 3]);
     same(&rt, both.total(), 9);
     same(&rt, Reds::none().total(), 0);
-    Ok(())
 }
 
 #[test]
-fn adds_melds_to_tiles(rt: HostRuntime) -> Result<(), Fail> {
-    let mut held = read_counts(b"3m1z")
-        .ok()
-        .ok_or("a text of tiles")?
-        .to_array();
+fn adds_melds_to_tiles(rt: HostRuntime) {
+    let mut held = counts_of(&rt, b"3m1z").to_array();
     let mut melds = Melds::new();
     melds.push(Meld::Pon(Kind::at(27)));
     melds.push(Meld::Kan(Kind::at(5)));
     add_melds(&mut held, &melds);
     same(&rt, [held[2], held[5], held[27], held[28]], [1, 4, 4, 0]);
-    Ok(())
 }
 
 #[test]
@@ -241,7 +240,7 @@ fn adds_up_melds_and_blocks(rt: HostRuntime) {
     same(&rt, melds.tiles(Kind::at(4)), 1);
     same(&rt, melds.tiles(Kind::at(5)), 0);
     let tiles = meld_tiles(&melds);
-    same(&rt, tiles.iter().filter(|held| **held > 0).count(), 4);
+    same(&rt, KindSet::of(&tiles).len(), 4);
     holds(
         &rt,
         tiles[27] == 4 && tiles[2] == 1 && tiles[3] == 1 && tiles[4] == 1,
@@ -269,7 +268,7 @@ fn is_named(number: u8, suit: Suit, rank: usize, [terminal, honour, begins]: [bo
 
 #[test]
 fn names_each_kind(rt: HostRuntime) {
-    let rows = [
+    static ROWS: [(u8, Suit, usize, [bool; 3]); 10] = [
         (0, Suit::Characters, 0, [true, false, true]),
         (6, Suit::Characters, 6, [false, false, true]),
         (7, Suit::Characters, 7, [false, false, false]),
@@ -281,23 +280,30 @@ fn names_each_kind(rt: HostRuntime) {
         (27, Suit::Honours, 0, [false, true, false]),
         (33, Suit::Honours, 6, [false, true, false]),
     ];
-    for (number, suit, rank, natures) in rows {
-        holds_in(&rt, &number, is_named(number, suit, rank, natures));
+    for &(number, suit, rank, natures) in &ROWS {
+        holds(&rt, is_named(number, suit, rank, natures));
     }
-    let firsts = Suit::ALL.map(|suit| suit.first());
-    same(&rt, firsts, [0, 9, 18, 27]);
-    same(&rt, Suit::NUMBERED.map(|suit| suit.first()), [0, 9, 18]);
-    for suit in Suit::ALL {
-        let partner = suit.partner();
-        holds(
-            &rt,
-            partner != suit && partner.partner() == suit && partner.is_low() == suit.is_low(),
-        );
-    }
+}
+
+/// The first kind of a suit, and whether the suit is one of the lower two.
+fn begins(rt: &impl Abort, suit: Suit, first: usize, is_low: bool) {
+    same(rt, (suit.first(), suit.is_low()), (first, is_low));
+    let partner = suit.partner();
+    same(rt, (partner.partner(), partner.is_low()), (suit, is_low));
+    holds(rt, partner != suit);
+}
+
+#[test]
+fn begins_each_suit(rt: HostRuntime) {
+    begins(&rt, Suit::Characters, 0, true);
+    begins(&rt, Suit::Circles, 9, true);
+    begins(&rt, Suit::Bamboos, 18, false);
+    begins(&rt, Suit::Honours, 27, false);
+    let [first, second, third] = Suit::NUMBERED;
     same(
         &rt,
-        Suit::ALL.map(|suit| suit.is_low()),
-        [true, true, false, false],
+        [first.first(), second.first(), third.first()],
+        [0, 9, 18],
     );
 }
 

@@ -1,24 +1,22 @@
-use crate::facts::{holds, holds_in, same};
+use crate::facts::{holds, same};
 use crate::split::tiles;
 use riichi_blocks::*;
 use riichi_hand::{By, Job, Rules, WinRecord, Wind, is_ron, read_line};
 use riichi_split::{Reading, Readings};
-use riichi_tiles::{Block, Kind, Suit, read_counts};
+use riichi_tiles::{Block, Kind, Suit};
 use std::process::Abort;
-use std::test::Fail;
 
-fn job(line: &str) -> Result<Job, Fail> {
-    let job = read_line(Rules::One, line.as_bytes())
-        .ok()
-        .ok_or("a line without a fault")?;
-    Ok(job.ok_or("a job")?)
+/// The win of a line.
+fn won(rt: &impl Abort, line: &str) -> WinRecord {
+    let win = match read_line(Rules::One, line.as_bytes()) {
+        Ok(Some(Job::Win(win))) => Some(win),
+        _ => None,
+    };
+    win.expect(rt, "a win")
 }
 
 fn all(rt: &impl Abort, text: &[u8]) -> AllTiles {
-    let Ok(tiles) = read_counts(text) else {
-        panic!(rt; "no tiles")
-    };
-    AllTiles::new(tiles.to_array())
+    AllTiles::new(tiles(rt, text).to_array())
 }
 
 /// 111m 567p 33s, a concealed kong of 9m and an open triplet of the Green dragon: won by ron, the triplet 111m is open.
@@ -79,19 +77,17 @@ fn pairs_and_tiles(rt: &impl Abort, win: &WinRecord) {
 }
 
 #[test]
-fn looks_at_an_open_hand(rt: HostRuntime) -> Result<(), Fail> {
-    let hand = tiles(b"111m567p33s")?;
-    let job = job("win 11m567p33s open=ankan:9999m,pon:666z on=1m by=ron seat=E round=E")?;
-    if let Job::Win(win) = &job {
-        let mut is_read = false;
-        for reading in Readings::new(&hand, &win.melds(), win.winning()) {
-            open_hand(&rt, &reading, win);
-            is_read = true;
-        }
-        holds(&rt, is_read);
-        pairs_and_tiles(&rt, win);
+fn looks_at_an_open_hand(rt: HostRuntime) {
+    let hand = tiles(&rt, b"111m567p33s");
+    let line = "win 11m567p33s open=ankan:9999m,pon:666z on=1m by=ron seat=E round=E";
+    let win = won(&rt, line);
+    let mut is_read = false;
+    for reading in Readings::new(&hand, &win.melds(), win.winning()) {
+        open_hand(&rt, &reading, &win);
+        is_read = true;
     }
-    Ok(())
+    holds(&rt, is_read);
+    pairs_and_tiles(&rt, &win);
 }
 
 /// Whether all blocks have an orphan, all a terminal, some an honour, and whether the wait is two-sided.
@@ -105,43 +101,43 @@ fn kinds_in_blocks(reading: &Reading, win: &WinRecord) -> [bool; 4] {
     ]
 }
 
-#[test]
-fn looks_at_the_kinds_in_blocks(rt: HostRuntime) -> Result<(), Fail> {
-    let rows = [
-        (
-            "123m789m12399p789s",
-            "win 123m789m12399p78s on=9s by=ron seat=E round=E",
-            [true, true, false, true],
-        ),
-        (
-            "123m789m12399p789s",
-            "win 123m789m12399p89s on=7s by=ron seat=E round=E",
-            [true, true, false, false],
-        ),
-        (
-            "123m789m123p11z789s",
-            "win 123m789m123p11z78s on=9s by=ron seat=E round=E",
-            [true, false, true, true],
-        ),
-        (
-            "123m789m12344p678s",
-            "win 123m789m12344p78s on=6s by=ron seat=E round=E",
-            [false, false, false, true],
-        ),
-    ];
-    for (hand, line, wanted) in rows {
-        let hand = tiles(hand.as_bytes())?;
-        let job = job(line)?;
-        if let Job::Win(win) = &job {
-            let mut is_read = false;
-            for reading in Readings::new(&hand, &win.melds(), win.winning()) {
-                is_read = true;
-                holds_in(&rt, &line, kinds_in_blocks(&reading, win) == wanted);
-            }
-            holds_in(&rt, &line, is_read);
-        }
+/// That the readings of a win have such blocks.
+fn has_blocks(rt: &impl Abort, hand: &[u8], line: &str, wanted: [bool; 4]) {
+    let win = won(rt, line);
+    let mut is_read = false;
+    for reading in Readings::new(&tiles(rt, hand), &win.melds(), win.winning()) {
+        is_read = true;
+        holds(rt, kinds_in_blocks(&reading, &win) == wanted);
     }
-    Ok(())
+    holds(rt, is_read);
+}
+
+#[test]
+fn looks_at_the_kinds_in_blocks(rt: HostRuntime) {
+    has_blocks(
+        &rt,
+        b"123m789m12399p789s",
+        "win 123m789m12399p78s on=9s by=ron seat=E round=E",
+        [true, true, false, true],
+    );
+    has_blocks(
+        &rt,
+        b"123m789m12399p789s",
+        "win 123m789m12399p89s on=7s by=ron seat=E round=E",
+        [true, true, false, false],
+    );
+    has_blocks(
+        &rt,
+        b"123m789m123p11z789s",
+        "win 123m789m123p11z78s on=9s by=ron seat=E round=E",
+        [true, false, true, true],
+    );
+    has_blocks(
+        &rt,
+        b"123m789m12344p678s",
+        "win 123m789m12344p78s on=6s by=ron seat=E round=E",
+        [false, false, false, true],
+    );
 }
 
 /// Seven pairs and thirteen orphans have no blocks.
@@ -158,33 +154,31 @@ fn special(rt: &impl Abort, reading: &Reading, win: &WinRecord, seven_pairs: boo
     );
 }
 
-#[test]
-fn looks_at_special_readings(rt: HostRuntime) -> Result<(), Fail> {
-    let rows = [
-        (
-            "1133557799m2211z",
-            "win 1133557799m22z1z on=1z by=ron seat=E round=E",
-            true,
-        ),
-        (
-            "19m19p19s11234567z",
-            "win 19m19p19s1234567z on=1z by=ron seat=E round=E",
-            false,
-        ),
-    ];
-    for (hand, line, seven_pairs) in rows {
-        let hand = tiles(hand.as_bytes())?;
-        let job = job(line)?;
-        if let Job::Win(win) = &job {
-            let mut is_read = false;
-            for reading in Readings::new(&hand, &win.melds(), win.winning()) {
-                special(&rt, &reading, win, seven_pairs);
-                is_read = true;
-            }
-            holds_in(&rt, &line, is_read);
-        }
+/// That a win is read as seven pairs, or as thirteen orphans.
+fn is_special(rt: &impl Abort, hand: &[u8], line: &str, seven_pairs: bool) {
+    let win = won(rt, line);
+    let mut is_read = false;
+    for reading in Readings::new(&tiles(rt, hand), &win.melds(), win.winning()) {
+        special(rt, &reading, &win, seven_pairs);
+        is_read = true;
     }
-    Ok(())
+    holds(rt, is_read);
+}
+
+#[test]
+fn looks_at_special_readings(rt: HostRuntime) {
+    is_special(
+        &rt,
+        b"1133557799m2211z",
+        "win 1133557799m22z1z on=1z by=ron seat=E round=E",
+        true,
+    );
+    is_special(
+        &rt,
+        b"19m19p19s11234567z",
+        "win 19m19p19s1234567z on=1z by=ron seat=E round=E",
+        false,
+    );
 }
 
 #[test]
@@ -233,7 +227,7 @@ fn looks_at_all_tiles(rt: HostRuntime) {
 }
 
 #[test]
-fn knows_kinds_waits_and_winners(rt: HostRuntime) -> Result<(), Fail> {
+fn knows_kinds_waits_and_winners(rt: HostRuntime) {
     holds(
         &rt,
         is_wind(EAST) && is_wind(30) && !is_wind(26) && !is_wind(WHITE),
@@ -248,11 +242,10 @@ fn knows_kinds_waits_and_winners(rt: HostRuntime) -> Result<(), Fail> {
     same(&rt, wait_fu(Kind::at(6), &Block::Triplet(Kind::at(6))), 0);
     holds(&rt, is_ron(By::Ron) && !is_ron(By::Tsumo));
     holds(&rt, Wind::East.is_dealer() && !Wind::North.is_dealer());
-    Ok(())
 }
 
 #[test]
-fn counts_blocks_as_they_come(rt: HostRuntime) -> Result<(), Fail> {
+fn counts_blocks_as_they_come(rt: HostRuntime) {
     let mut blocks = Blocks::new();
     let run = HandBlock::Run(Kind::at(9));
     blocks.push(run);
@@ -260,5 +253,4 @@ fn counts_blocks_as_they_come(rt: HostRuntime) -> Result<(), Fail> {
     same(&rt, blocks.runs_equal_to(&run), 2);
     same(&rt, blocks.runs(), 2);
     holds(&rt, blocks.has_equal_runs() && !blocks.has_triplet(9));
-    Ok(())
 }

@@ -14,13 +14,6 @@ pub(crate) fn holds(rt: &impl Abort, fact: bool)
     assert!(rt; fact);
 }
 
-/// The fact holds in this row of a table.
-pub(crate) fn holds_in<R: Debug>(rt: &impl Abort, row: &R, fact: bool)
-    ensures { fact ≡ true }
-{
-    assert!(rt; fact, "{row:?}");
-}
-
 /// The two values are the same.
 pub(crate) fn same<T: PartialEq + Debug + Drop>(rt: &impl Abort, left: T, right: T) {
     assert!(rt; left == right, "{left:?} is not {right:?}");

@@ -5,7 +5,6 @@ use riichi_score::*;
 use riichi_split::Reading;
 use riichi_tiles::Reds;
 use std::process::Abort;
-use std::test::Fail;
 
 fn text_of(job: &Job) -> ArrayString<3072> {
     match job {
@@ -14,19 +13,18 @@ fn text_of(job: &Job) -> ArrayString<3072> {
     }
 }
 
-pub(crate) fn answers(rt: &impl Abort, rules: Rules, rows: &[(&str, &str)]) -> Result<(), Fail> {
+pub(crate) fn answers(rt: &impl Abort, rules: Rules, rows: &[(&str, &str)]) {
     for (line, text) in rows {
         match read_line(rules, line.as_bytes()) {
             Ok(Some(job)) => same_in(rt, &line, text_of(&job).as_str(), *text),
-            Ok(None) => return Err("a line that tells no job")?,
+            Ok(None) => holds(rt, false),
             Err(fault) => same_in(rt, &line, fault_text(&fault).as_str(), *text),
         }
     }
-    Ok(())
 }
 
 #[test]
-fn runs_and_draws(rt: HostRuntime) -> Result<(), Fail> {
+fn runs_and_draws(rt: HostRuntime) {
     answers(
         &rt,
         Rules::One,
@@ -49,7 +47,7 @@ fn runs_and_draws(rt: HostRuntime) -> Result<(), Fail> {
             ),
             ("win 123456789m22s34p on=9s by=ron seat=S round=E", "no win"),
         ],
-    )
+    );
 }
 
 /// The text of a win and its base points.
@@ -65,13 +63,11 @@ fn text_and_base_of(job: &Job) -> Option<(ArrayString<3072>, u32)> {
 
 /// Two han with 30 fu: 30 times 16.
 #[test]
-fn base_points_of_a_score(rt: HostRuntime) -> Result<(), Fail> {
+fn base_points_of_a_score(rt: HostRuntime) {
     let line = b"win 234m567m345p67s99s on=5s by=ron seat=S round=E riichi=1";
     match read_line(Rules::One, line) {
         Ok(Some(job)) => {
-            let Some((text, base)) = text_and_base_of(&job) else {
-                return Err("a score".into());
-            };
+            let (text, base) = text_and_base_of(&job).expect(&rt, "a score");
             same(
                 &rt,
                 text.as_str(),
@@ -79,13 +75,12 @@ fn base_points_of_a_score(rt: HostRuntime) -> Result<(), Fail> {
             );
             same(&rt, base, 480);
         }
-        _ => return Err("a win".into()),
+        _ => holds(&rt, false),
     }
-    Ok(())
 }
 
 #[test]
-fn open_hands(rt: HostRuntime) -> Result<(), Fail> {
+fn open_hands(rt: HostRuntime) {
     answers(
         &rt,
         Rules::One,
@@ -107,11 +102,11 @@ fn open_hands(rt: HostRuntime) -> Result<(), Fail> {
                 "no yaku",
             ),
         ],
-    )
+    );
 }
 
 #[test]
-fn several_readings(rt: HostRuntime) -> Result<(), Fail> {
+fn several_readings(rt: HostRuntime) {
     answers(
         &rt,
         Rules::One,
@@ -141,156 +136,163 @@ fn several_readings(rt: HostRuntime) -> Result<(), Fail> {
                 "won 1 han 40 fu 2000 gain 2000 riichi",
             ),
         ],
-    )
+    );
 }
 
 /// The answers under the first profile with one rule turned.
-fn answers_with(rt: &impl Abort, rows: &[(Switch, bool, &str, &str)]) -> Result<(), Fail> {
+fn answers_with(rt: &impl Abort, rows: &[(Switch, bool, &str, &str)]) {
     for (switch, is_on, line, text) in rows {
         let rules = Rules::One.with(*switch, *is_on);
-        answers(rt, rules, &[(*line, *text)])?;
+        answers(rt, rules, &[(*line, *text)]);
     }
-    Ok(())
 }
 
 #[test]
-fn rules_of_base_points(rt: HostRuntime) -> Result<(), Fail> {
-    let rows = [
-        (
-            Switch::RedFives,
-            true,
-            "win 123406789m22s34p on=2p by=ron seat=S round=E",
-            "won 4 han 30 fu 7700 gain 7700 pinfu pure-straight dora 1",
-        ),
-        (
-            Switch::Raise,
-            true,
-            "win 123456789m22s34p on=2p by=ron seat=S round=E dora=1p",
-            "won 4 han 30 fu 8000 gain 8000 pinfu pure-straight dora 1",
-        ),
-        (
-            Switch::CountedYakuman,
-            false,
-            "win 223344m556677m8m on=8m by=ron seat=S round=E riichi=1 dora=1m",
-            "won 14 han 30 fu 24000 gain 24000 riichi pinfu all-simples twice-pure-double-chow full-flush dora 2",
-        ),
-        (
-            Switch::Ippatsu,
-            false,
-            "win 234m567m345p67s99s on=5s by=ron seat=S round=E riichi=1 flags=ippatsu",
-            "won 2 han 30 fu 2000 gain 2000 riichi pinfu",
-        ),
-        (
-            Switch::Ura,
-            false,
-            "win 234m567m345p67s99s on=5s by=ron seat=S round=E riichi=1 ura=1m",
-            "won 2 han 30 fu 2000 gain 2000 riichi pinfu",
-        ),
-    ];
-    answers_with(&rt, &rows)
+fn rules_of_base_points(rt: HostRuntime) {
+    answers_with(
+        &rt,
+        &[
+            (
+                Switch::RedFives,
+                true,
+                "win 123406789m22s34p on=2p by=ron seat=S round=E",
+                "won 4 han 30 fu 7700 gain 7700 pinfu pure-straight dora 1",
+            ),
+            (
+                Switch::Raise,
+                true,
+                "win 123456789m22s34p on=2p by=ron seat=S round=E dora=1p",
+                "won 4 han 30 fu 8000 gain 8000 pinfu pure-straight dora 1",
+            ),
+            (
+                Switch::CountedYakuman,
+                false,
+                "win 223344m556677m8m on=8m by=ron seat=S round=E riichi=1 dora=1m",
+                "won 14 han 30 fu 24000 gain 24000 riichi pinfu all-simples twice-pure-double-chow full-flush dora 2",
+            ),
+            (
+                Switch::Ippatsu,
+                false,
+                "win 234m567m345p67s99s on=5s by=ron seat=S round=E riichi=1 flags=ippatsu",
+                "won 2 han 30 fu 2000 gain 2000 riichi pinfu",
+            ),
+            (
+                Switch::Ura,
+                false,
+                "win 234m567m345p67s99s on=5s by=ron seat=S round=E riichi=1 ura=1m",
+                "won 2 han 30 fu 2000 gain 2000 riichi pinfu",
+            ),
+        ],
+    );
 }
 
 #[test]
-fn rules_of_yakuman(rt: HostRuntime) -> Result<(), Fail> {
-    let rows = [
-        (
-            Switch::AddYakuman,
-            true,
-            "win 111z222z33z444z99m on=3z by=tsumo seat=S round=E",
-            "won yakuman 16000/32000 gain 64000 four-concealed-pungs big-four-winds",
-        ),
-        (
-            Switch::DoubleYakuman,
-            true,
-            "win 1112345678999m on=5m by=ron seat=S round=E",
-            "won yakuman 64000 gain 64000 nine-gates",
-        ),
-        (
-            Switch::DoubleYakuman,
-            true,
-            "win 1112345678899m on=9m by=ron seat=S round=E",
-            "won yakuman 32000 gain 32000 nine-gates",
-        ),
-        (
-            Switch::DoubleYakuman,
-            true,
-            "win 19m19p19s1234567z on=1m by=ron seat=S round=E",
-            "won yakuman 64000 gain 64000 thirteen-orphans",
-        ),
-        (
-            Switch::DoubleYakuman,
-            true,
-            "win 111m222p333s9m444z on=9m by=ron seat=S round=E",
-            "won yakuman 64000 gain 64000 four-concealed-pungs",
-        ),
-    ];
-    answers_with(&rt, &rows)
+fn rules_of_yakuman(rt: HostRuntime) {
+    answers_with(
+        &rt,
+        &[
+            (
+                Switch::AddYakuman,
+                true,
+                "win 111z222z33z444z99m on=3z by=tsumo seat=S round=E",
+                "won yakuman 16000/32000 gain 64000 four-concealed-pungs big-four-winds",
+            ),
+            (
+                Switch::DoubleYakuman,
+                true,
+                "win 1112345678999m on=5m by=ron seat=S round=E",
+                "won yakuman 64000 gain 64000 nine-gates",
+            ),
+            (
+                Switch::DoubleYakuman,
+                true,
+                "win 1112345678899m on=9m by=ron seat=S round=E",
+                "won yakuman 32000 gain 32000 nine-gates",
+            ),
+            (
+                Switch::DoubleYakuman,
+                true,
+                "win 19m19p19s1234567z on=1m by=ron seat=S round=E",
+                "won yakuman 64000 gain 64000 thirteen-orphans",
+            ),
+            (
+                Switch::DoubleYakuman,
+                true,
+                "win 111m222p333s9m444z on=9m by=ron seat=S round=E",
+                "won yakuman 64000 gain 64000 four-concealed-pungs",
+            ),
+        ],
+    );
 }
 
 #[test]
-fn blessing_of_man(rt: HostRuntime) -> Result<(), Fail> {
-    let rows = [
-        (
-            Switch::BlessingOfMan,
-            true,
-            "win 234m567m345p67s99s on=5s by=ron seat=N round=E flags=first",
-            "won yakuman 32000 gain 32000 blessing-of-man",
-        ),
-        (
-            Switch::BlessingOfMan,
-            true,
-            "win 234m567m345p67s99s on=5s by=tsumo seat=N round=E flags=first",
-            "won yakuman 8000/16000 gain 32000 blessing-of-earth",
-        ),
-        (
-            Switch::BlessingOfMan,
-            true,
-            "win 234m567m345p67s99s on=5s by=ron seat=E round=E flags=first",
-            "refused H15",
-        ),
-        (
-            Switch::BlessingOfMan,
-            true,
-            "win 234m567m345p67s99s on=5s by=ron seat=N round=E riichi=1 flags=first",
-            "refused H15",
-        ),
-    ];
-    answers_with(&rt, &rows)
+fn blessing_of_man(rt: HostRuntime) {
+    answers_with(
+        &rt,
+        &[
+            (
+                Switch::BlessingOfMan,
+                true,
+                "win 234m567m345p67s99s on=5s by=ron seat=N round=E flags=first",
+                "won yakuman 32000 gain 32000 blessing-of-man",
+            ),
+            (
+                Switch::BlessingOfMan,
+                true,
+                "win 234m567m345p67s99s on=5s by=tsumo seat=N round=E flags=first",
+                "won yakuman 8000/16000 gain 32000 blessing-of-earth",
+            ),
+            (
+                Switch::BlessingOfMan,
+                true,
+                "win 234m567m345p67s99s on=5s by=ron seat=E round=E flags=first",
+                "refused H15",
+            ),
+            (
+                Switch::BlessingOfMan,
+                true,
+                "win 234m567m345p67s99s on=5s by=ron seat=N round=E riichi=1 flags=first",
+                "refused H15",
+            ),
+        ],
+    );
 }
 
 #[test]
-fn rules_of_fu_and_open_hands(rt: HostRuntime) -> Result<(), Fail> {
-    let rows = [
-        (
-            Switch::DoubleWindPair,
-            false,
-            "win 234m567m999p67s11z on=5s by=ron seat=E round=E riichi=1",
-            "won 1 han 40 fu 2000 gain 2000 riichi",
-        ),
-        (
-            Switch::KongDrawFu,
-            false,
-            "win 567m345p68s99s open=kan:2222m on=7s by=tsumo seat=S round=E flags=rinshan",
-            "won 1 han 30 fu 300/500 gain 1100 after-a-kong",
-        ),
-        (
-            Switch::OpenSimples,
-            false,
-            "win 567m345p67s88s open=chi:234m on=5s by=tsumo seat=S round=E",
-            "no yaku",
-        ),
-        (
-            Switch::OpenPinfuFu,
-            false,
-            "win 567m345p67s88s open=chi:234m on=5s by=ron seat=S round=E",
-            "won 1 han 20 fu 700 gain 700 all-simples",
-        ),
-    ];
-    answers_with(&rt, &rows)
+fn rules_of_fu_and_open_hands(rt: HostRuntime) {
+    answers_with(
+        &rt,
+        &[
+            (
+                Switch::DoubleWindPair,
+                false,
+                "win 234m567m999p67s11z on=5s by=ron seat=E round=E riichi=1",
+                "won 1 han 40 fu 2000 gain 2000 riichi",
+            ),
+            (
+                Switch::KongDrawFu,
+                false,
+                "win 567m345p68s99s open=kan:2222m on=7s by=tsumo seat=S round=E flags=rinshan",
+                "won 1 han 30 fu 300/500 gain 1100 after-a-kong",
+            ),
+            (
+                Switch::OpenSimples,
+                false,
+                "win 567m345p67s88s open=chi:234m on=5s by=tsumo seat=S round=E",
+                "no yaku",
+            ),
+            (
+                Switch::OpenPinfuFu,
+                false,
+                "win 567m345p67s88s open=chi:234m on=5s by=ron seat=S round=E",
+                "won 1 han 20 fu 700 gain 700 all-simples",
+            ),
+        ],
+    );
 }
 
 #[test]
-fn profiles_are_choices_of_rules(rt: HostRuntime) -> Result<(), Fail> {
+fn profiles_are_choices_of_rules(rt: HostRuntime) {
     let second = Rules::One
         .with(Switch::RedFives, true)
         .with(Switch::Raise, true);
@@ -300,7 +302,6 @@ fn profiles_are_choices_of_rules(rt: HostRuntime) -> Result<(), Fail> {
         holds(&rt, second.with(switch, true).has(switch));
         holds(&rt, switch.word().len() > 2);
     }
-    Ok(())
 }
 
 fn as_seven_pairs(job: &Job) -> Option<Score> {
@@ -311,20 +312,19 @@ fn as_seven_pairs(job: &Job) -> Option<Score> {
 }
 
 #[test]
-fn a_reading_that_is_not_the_best(rt: HostRuntime) -> Result<(), Fail> {
+fn a_reading_that_is_not_the_best(rt: HostRuntime) {
     let line = b"win 112233m556677p9s on=9s by=ron seat=S round=E";
     match read_line(Rules::One, line) {
         Ok(Some(job)) => {
-            let score = as_seven_pairs(&job).ok_or("a yaku")?;
+            let score = as_seven_pairs(&job).expect(&rt, "a yaku");
             same(&rt, (score.han, score.fu, score.gain), (2, 25, 1600));
-            Ok(())
         }
-        _ => Err("a line that tells no job")?,
+        _ => holds(&rt, false),
     }
 }
 
 #[test]
-fn triplets_and_yakuman(rt: HostRuntime) -> Result<(), Fail> {
+fn triplets_and_yakuman(rt: HostRuntime) {
     answers(
         &rt,
         Rules::One,
@@ -346,7 +346,7 @@ fn triplets_and_yakuman(rt: HostRuntime) -> Result<(), Fail> {
                 "won yakuman 32000 gain 32000 nine-gates",
             ),
         ],
-    )
+    );
 }
 
 /// A red five, four han 30 fu, three han 60 fu; a red five that wins; one in a meld; no yaku.
@@ -364,7 +364,7 @@ const SIMPLES: &str = "win 567m345p67s88s open=chi:340m on=5s by=ron seat=S roun
 const NOTHING: &str = "win 406m22s34p open=chi:123m,chi:678p on=2p by=ron seat=S round=E";
 
 #[test]
-fn the_first_profile(rt: HostRuntime) -> Result<(), Fail> {
+fn the_first_profile(rt: HostRuntime) {
     answers(
         &rt,
         Rules::One,
@@ -385,11 +385,11 @@ fn the_first_profile(rt: HostRuntime) -> Result<(), Fail> {
             (SIMPLES, "won 1 han 30 fu 1000 gain 1000 all-simples"),
             (NOTHING, "no yaku"),
         ],
-    )
+    );
 }
 
 #[test]
-fn the_second_profile(rt: HostRuntime) -> Result<(), Fail> {
+fn the_second_profile(rt: HostRuntime) {
     answers(
         &rt,
         Rules::Two,
@@ -410,11 +410,11 @@ fn the_second_profile(rt: HostRuntime) -> Result<(), Fail> {
             (SIMPLES, "won 2 han 30 fu 2000 gain 2000 all-simples dora 1"),
             (NOTHING, "no yaku"),
         ],
-    )
+    );
 }
 
 #[test]
-fn base_points_and_gain(rt: HostRuntime) -> Result<(), Fail> {
+fn base_points_and_gain(rt: HostRuntime) {
     let one = Rules::One;
     let two = Rules::Two;
     same(&rt, base_points(one, 4, 30), 1920);
@@ -433,9 +433,8 @@ fn base_points_and_gain(rt: HostRuntime) -> Result<(), Fail> {
     same(&rt, (product_of(2, 40), product_of(4, 30)), (640, 1920));
     holds(&rt, is_raised(two, 4, 30) && is_raised(two, 3, 60));
     holds(&rt, !is_raised(two, 4, 25) && !is_raised(one, 4, 30));
-    let reds = Reds::new(1, 2, 0).ok_or("three red fives")?;
+    let reds = Reds::new(1, 2, 0).expect(&rt, "three red fives");
     same(&rt, (red_dora(one, &reds), red_dora(two, &reds)), (0, 3));
-    Ok(())
 }
 
 /// The fu that a win has for being open, with 20 fu and with 22 in all.
@@ -448,10 +447,9 @@ fn open_fu_of(job: &Job) -> Option<(u8, u8)> {
 }
 
 #[test]
-fn an_open_hand_of_twenty_fu(rt: HostRuntime) -> Result<(), Fail> {
+fn an_open_hand_of_twenty_fu(rt: HostRuntime) {
     match read_line(Rules::One, SIMPLES.as_bytes()) {
         Ok(Some(job)) => same(&rt, open_fu_of(&job), Some((10, 0))),
-        _ => return Err("a line that tells no job")?,
+        _ => holds(&rt, false),
     }
-    Ok(())
 }

@@ -6,11 +6,11 @@ use riichi_hand::{By, Flags, Rules, WinParts, WinRecord, Wind};
 use riichi_split::Readings;
 use riichi_tiles::{Counts, Kind, Meld, Melds, Reds};
 use riichi_yaku::*;
-use std::test::Fail;
+use std::process::Abort;
 
 /// A win of the dealer with these tiles, the winning one among them.
-fn won(text: &[u8], winning: Kind, melds: Melds, by: By) -> Result<WinRecord, Fail> {
-    let mut concealed = tiles(text)?;
+fn won(rt: &impl Abort, text: &[u8], winning: Kind, melds: Melds, by: By) -> WinRecord {
+    let mut concealed = tiles(rt, text);
     if concealed.get(winning) > 0 {
         concealed.remove(winning);
     }
@@ -30,18 +30,18 @@ fn won(text: &[u8], winning: Kind, melds: Melds, by: By) -> Result<WinRecord, Fa
         sticks: 0,
         reds: Reds::none(),
     });
-    Ok(win.ok().ok_or("a record")?)
+    win.ok().expect(rt, "a record")
 }
 
 /// The set of a reading of a concealed hand won by self-draw.
-fn drawn(text: &[u8], winning: u8) -> Result<YakuSet, Fail> {
-    let winning = Kind::new(winning).ok_or("a kind")?;
-    let win = won(text, winning, Melds::new(), By::Tsumo)?;
+fn drawn(rt: &impl Abort, text: &[u8], winning: u8) -> YakuSet {
+    let winning = Kind::new(winning).expect(rt, "a kind");
+    let win = won(rt, text, winning, Melds::new(), By::Tsumo);
     let mut set = None;
-    for reading in Readings::new(&tiles(text)?, &Melds::new(), winning) {
+    for reading in Readings::new(&tiles(rt, text), &Melds::new(), winning) {
         set = Some(yaku_of(&reading, &win));
     }
-    Ok(set.ok_or("a reading")?)
+    set.expect(rt, "a reading")
 }
 
 fn words_of(set: YakuSet) -> ArrayString<3072> {
@@ -52,8 +52,8 @@ fn words_of(set: YakuSet) -> ArrayString<3072> {
 
 /// Whichever of its readings is taken, each hand has these yaku.
 #[test]
-fn tells_the_yaku(rt: HostRuntime) -> Result<(), Fail> {
-    let rows: [(&[u8], u8, &str, u8); 8] = [
+fn tells_the_yaku(rt: HostRuntime) {
+    static ROWS: [(&[u8], u8, &str, u8); 8] = [
         (b"234m567m345p567s99s", 22, " fully-concealed pinfu", 2),
         (
             b"223344m567p345s11z",
@@ -83,23 +83,22 @@ fn tells_the_yaku(rt: HostRuntime) -> Result<(), Fail> {
             6,
         ),
     ];
-    for (text, winning, words, han) in rows {
-        let set = drawn(text, winning)?;
+    for &(text, winning, words, han) in &ROWS {
+        let set = drawn(&rt, text, winning);
         same(&rt, words_of(set).as_str(), words);
         same(&rt, set.han(true), han);
         same(&rt, set.is_yakuman(), han == 0);
         holds(&rt, !set.is_empty());
     }
-    Ok(())
 }
 
 #[test]
-fn tells_an_open_hand(rt: HostRuntime) -> Result<(), Fail> {
+fn tells_an_open_hand(rt: HostRuntime) {
     let text = b"111m789p22233s";
     let mut melds = Melds::new();
     melds.push(Meld::Pon(Kind::at(27)));
-    let win = won(text, Kind::at(20), melds, By::Ron)?;
-    for reading in Readings::new(&tiles(text)?, &melds, Kind::at(20)) {
+    let win = won(&rt, text, Kind::at(20), melds, By::Ron);
+    for reading in Readings::new(&tiles(&rt, text), &melds, Kind::at(20)) {
         let set = yaku_of(&reading, &win);
         same(&rt, set.bits(), 0b1100_0000_0000);
         holds(
@@ -117,5 +116,4 @@ fn tells_an_open_hand(rt: HostRuntime) -> Result<(), Fail> {
         let all = all_tiles(&win);
         holds(&rt, yaku_among(&blocks, &reading, &all, &win) == set);
     }
-    Ok(())
 }

@@ -8,12 +8,11 @@ use riichi_hand::HandRecord;
 use riichi_split::{MOST_WAITS, SuitTiles, push_waits, waits};
 use riichi_tiles::{Kind, KindSet, Meld, Melds, read_counts};
 use std::process::Abort;
-use std::test::Fail;
 
 /// Of each suit: the pairs, and as bits the ranks for sets and those for sets and a pair.
 #[test]
 fn cuts_a_suit(rt: HostRuntime) {
-    let rows: [([u8; 9], bool, (u8, u64, u64)); 8] = [
+    static ROWS: [([u8; 9], bool, (u8, u64, u64)); 8] = [
         ([0; 9], true, (0, 0, 0)),
         ([1, 1, 1, 0, 0, 0, 0, 0, 0], true, (0, 0, 0)),
         ([1, 1, 1, 0, 0, 0, 0, 0, 0], false, (2, 0, 0)),
@@ -26,7 +25,7 @@ fn cuts_a_suit(rt: HostRuntime) {
         // 1111234 has it of 4 alone, since there is no fifth 1.
         ([4, 1, 1, 1, 0, 0, 0, 0, 0], true, (2, 0, 0b1000)),
     ];
-    for (held, has_runs, (pairs, sets, pair)) in rows {
+    for &(held, has_runs, (pairs, sets, pair)) in &ROWS {
         let cut = cut_of(&SuitTiles { held, has_runs });
         same(&rt, cut.pairs, pairs);
         same(&rt, cut.sets.bits(), sets);
@@ -43,9 +42,9 @@ fn sets_of_ranks(rt: HostRuntime) {
     same(&rt, ranks.bits(), 0b1_0000_0001);
 }
 
-fn hand_of(text: &[u8], melds: Melds) -> Result<HandRecord, Fail> {
-    let tiles = read_counts(text).ok().ok_or("tiles")?;
-    Ok(HandRecord::new(tiles, melds).ok().ok_or("a hand")?)
+fn hand_of(rt: &impl Abort, text: &[u8], melds: Melds) -> HandRecord {
+    let tiles = read_counts(text).ok().expect(rt, "tiles");
+    HandRecord::new(tiles, melds).ok().expect(rt, "a hand")
 }
 
 fn written(kinds: KindSet) -> ArrayString<MOST_WAITS> {
@@ -63,8 +62,8 @@ fn waits_are<C: CutSource>(rt: &impl Abort, source: &mut C, hand: &HandRecord, t
     }
 }
 
-fn tells_waits<C: CutSource>(rt: &impl Abort, source: &mut C) -> Result<(), Fail> {
-    let rows: [(&[u8], &str); 10] = [
+fn tells_waits<C: CutSource>(rt: &impl Abort, source: &mut C) {
+    static ROWS: [(&[u8], &str); 10] = [
         (b"1112345678999m", "waits 123456789m"),
         (b"123456789m1111z", "waits -"),
         (b"19m19p19s1234567z", "waits 19m19p19s1234567z"),
@@ -77,33 +76,31 @@ fn tells_waits<C: CutSource>(rt: &impl Abort, source: &mut C) -> Result<(), Fail
         (b"1234m1234p11122s", "waits -"),
         (b"1111234m555p777s", "waits 4m"),
     ];
-    for (tiles, text) in rows {
-        waits_are(rt, source, &hand_of(tiles, Melds::new())?, text);
+    for &(tiles, text) in &ROWS {
+        waits_are(rt, source, &hand_of(rt, tiles, Melds::new()), text);
     }
     let mut wind = Melds::new();
     wind.push(Meld::Pon(Kind::at(27)));
-    let hand = hand_of(b"2223456777m", wind)?;
+    let hand = hand_of(rt, b"2223456777m", wind);
     waits_are(rt, source, &hand, "waits 12345678m");
     // The meld holds all four 1m, one of the two kinds that would complete the hand.
     let mut kong = Melds::new();
     kong.push(Meld::Kan(Kind::at(0)));
-    let hand = hand_of(b"23m456p456s22z", kong)?;
+    let hand = hand_of(rt, b"23m456p456s22z", kong);
     waits_are(rt, source, &hand, "waits 4m");
-    Ok(())
 }
 
 #[test]
-fn tells_waits_by_each_source(rt: HostRuntime) -> Result<(), Fail> {
-    tells_waits(&rt, &mut FreshCuts)?;
+fn tells_waits_by_each_source(rt: HostRuntime) {
+    tells_waits(&rt, &mut FreshCuts);
     // It is there whether its memory can be had or not.
-    tells_waits(&rt, &mut WaitMemo::new(rt.alloc()))?;
-    tells_waits(&rt, &mut WaitMemo::in_value())?;
-    let mut memo = CutMemo::new(rt.alloc(), 64)
-        .or_else(|_| CutMemo::new(rt.alloc(), 1))
-        .map_err(|_| "no memory twice")?;
-    tells_waits(&rt, &mut memo)?;
+    tells_waits(&rt, &mut WaitMemo::new(rt.alloc()));
+    tells_waits(&rt, &mut WaitMemo::in_value());
+    let memo = CutMemo::new(rt.alloc(), 64).or_else(|_| CutMemo::new(rt.alloc(), 1));
+    let mut memo = memo.ok().expect(&rt, "memory, refused once at the most");
+    tells_waits(&rt, &mut memo);
     // No place, one for all suits, and three.
-    tells_waits(&rt, &mut LentCuts::new(&mut []))?;
-    tells_waits(&rt, &mut LentCuts::new(&mut [KeptCut::of_nothing(); 1]))?;
-    tells_waits(&rt, &mut LentCuts::new(&mut [KeptCut::of_nothing(); 3]))
+    tells_waits(&rt, &mut LentCuts::new(&mut []));
+    tells_waits(&rt, &mut LentCuts::new(&mut [KeptCut::of_nothing(); 1]));
+    tells_waits(&rt, &mut LentCuts::new(&mut [KeptCut::of_nothing(); 3]));
 }

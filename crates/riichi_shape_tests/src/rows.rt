@@ -2,7 +2,6 @@
 
 use crate::facts::{holds, same};
 use riichi_rows::{JoinedRows, RankSet, SuitRow, join_two, suit_row};
-use std::test::Fail;
 
 const NO_TILES: [u8; 9] = [0; 9];
 
@@ -13,7 +12,7 @@ fn row(counts: [u8; 9], runs: bool) -> SuitRow {
 
 /// Nothing is held: each entry is all of its tiles.
 #[test]
-fn rows_of_no_tiles(rt: HostRuntime) -> Result<(), Fail> {
+fn rows_of_no_tiles(rt: HostRuntime) {
     let suit = row(NO_TILES, true);
     same(&rt, suit.get(0, false), Some(0));
     same(&rt, suit.get(2, true), Some(8));
@@ -22,7 +21,6 @@ fn rows_of_no_tiles(rt: HostRuntime) -> Result<(), Fail> {
     let pairs = suit_row(NO_TILES, [2; 9], false);
     same(&rt, pairs.get(0, true), Some(2));
     same(&rt, pairs.get(1, false), None);
-    Ok(())
 }
 
 /// Of the ranks of a suit just these are in the set.
@@ -37,7 +35,7 @@ fn beside(circles: [u8; 9]) -> JoinedRows {
 
 /// What 12m lacks: characters of rank 0 and 1.
 #[test]
-fn ranks_lacked_by_a_run_of_two(rt: HostRuntime) -> Result<(), Fail> {
+fn ranks_lacked_by_a_run_of_two(rt: HostRuntime) {
     let held = [1, 1, 0, 0, 0, 0, 0, 0, 0];
     let characters = row(held, true);
     // With nothing else held, a pair lacks one tile, a second 1m or a second 2m.
@@ -56,5 +54,4 @@ fn ranks_lacked_by_a_run_of_two(rt: HostRuntime) -> Result<(), Fail> {
     let no_run = suit_row(held, [4, 4, 0, 4, 4, 4, 4, 4, 4], true);
     same(&rt, pair.with(&no_run, 1), Some(2));
     holds(&rt, are_just(pair.lacked_by(&no_run, 1, 2), &[0, 1]));
-    Ok(())
 }

@@ -12,7 +12,6 @@ use riichi_shape::{
 use riichi_tiles::{BySuit, Counts, Kind, Meld, Melds, Suit, read_counts};
 use std::alloc::Global;
 use std::process::Abort;
-use std::test::Fail;
 
 struct Row {
     hand: &'static str,
@@ -21,67 +20,71 @@ struct Row {
     text: &'static str,
 }
 
-fn tiles(text: &str) -> Result<Counts, Fail> {
+fn tiles(rt: &impl Abort, text: &str) -> Counts {
     if text.is_empty() {
-        return Ok(Counts::new());
+        return Counts::new();
     }
-    let counts = read_counts(text.as_bytes())?;
-    Ok(counts)
+    read_counts(text.as_bytes()).ok().expect(rt, "tiles")
 }
 
-fn melds(texts: &[&str]) -> Result<Melds, Fail> {
+fn melds(rt: &impl Abort, texts: &[&str]) -> Melds {
     let mut melds = Melds::new();
     for text in texts {
-        let meld = Meld::read(text.as_bytes()).ok_or("no meld")?;
+        let meld = Meld::read(text.as_bytes()).expect(rt, "a meld");
         if melds.count() < 4 && meld.is_proper() {
             melds.push(meld);
         }
     }
-    Ok(melds)
+    melds
 }
 
-fn asked_in(row: &Row) -> Result<ShapeRecord, Fail> {
-    let asked = ShapeRecord::new(tiles(row.hand)?, melds(row.melds)?, tiles(row.seen)?)?;
-    Ok(asked)
+fn asked_in(rt: &impl Abort, row: &Row) -> ShapeRecord {
+    let (hand, seen) = (tiles(rt, row.hand), tiles(rt, row.seen));
+    let asked = ShapeRecord::new(hand, melds(rt, row.melds), seen);
+    asked.ok().expect(rt, "a shape")
 }
 
-fn check(rt: &impl Abort, row: &Row) -> Result<(), Fail> {
-    same(rt, shape_text(&shape(&asked_in(row)?)).as_str(), row.text);
-    Ok(())
+fn check(rt: &impl Abort, row: &Row) {
+    same(
+        rt,
+        shape_text(&shape(&asked_in(rt, row))).as_str(),
+        row.text,
+    );
 }
 
-fn check_with(rt: &impl Abort, cache: &mut RowCache, row: &Row) -> Result<(), Fail> {
-    let asked = asked_in(row)?;
+fn check_with(rt: &impl Abort, cache: &mut RowCache, row: &Row) {
+    let asked = asked_in(rt, row);
     let answer = shape_with(cache, &asked);
     same(rt, shape_text(&answer).as_str(), row.text);
     holds(rt, answer == shape(&asked));
-    Ok(())
 }
 
 /// What stands before an answer is kept.
 #[test]
-fn writes_behind_a_text(rt: HostRuntime) -> Result<(), Fail> {
-    let asked = ShapeRecord::new(tiles("123456789m1134p")?, Melds::new(), Counts::new())?;
+fn writes_behind_a_text(rt: HostRuntime) {
+    let asked = asked_in(&rt, &ROWS[0]);
     let mut text = ArrayString::new();
     text.push_str("> ");
     push_shape(&mut text, &shape(&asked));
     same(&rt, text.as_str(), "> shanten 0 accepts 2p:4 5p:4 live 8");
-    Ok(())
 }
 
 /// Two in the hand and three seen elsewhere are a fifth copy.
 #[test]
-fn refuses_a_fifth_copy(rt: HostRuntime) -> Result<(), Fail> {
-    let asked = ShapeRecord::new(tiles("123456789m1134p")?, Melds::new(), tiles("111p")?);
+fn refuses_a_fifth_copy(rt: HostRuntime) {
+    let asked = ShapeRecord::new(
+        tiles(&rt, "123456789m1134p"),
+        Melds::new(),
+        tiles(&rt, "111p"),
+    );
     same(&rt, asked.err(), Some(LineFault::Line(LineCode::H9)));
-    Ok(())
 }
 
 /// A ready hand, live copies that are seen, a hand of fourteen; four copies of 1z of which no fifth
 /// is wanted; melds that leave one copy of a kind; a complete hand, and discards in their order. The
 /// last five: seven pairs that want kinds held once, and kinds not held; sets and a pair as near as
 /// seven pairs; orphans that have their pair, and that want it.
-const ROWS: [Row; 17] = [
+static ROWS: [Row; 17] = [
     Row {
         hand: "123456789m1134p",
         melds: &[],
@@ -187,11 +190,10 @@ const ROWS: [Row; 17] = [
 ];
 
 #[test]
-fn worked_rows(rt: HostRuntime) -> Result<(), Fail> {
+fn worked_rows(rt: HostRuntime) {
     for row in &ROWS {
-        check(&rt, row)?;
+        check(&rt, row);
     }
-    Ok(())
 }
 
 fn discards_of(answer: &ShapeAnswer) -> Option<DiscardList> {
@@ -202,35 +204,29 @@ fn discards_of(answer: &ShapeAnswer) -> Option<DiscardList> {
 }
 
 #[test]
-fn parts_of_an_answer(rt: HostRuntime) -> Result<(), Fail> {
-    let asked = ShapeRecord::new(
-        tiles("12z")?,
-        melds(&["pon:333z", "chi:123m", "chi:123m", "chi:123m"])?,
-        tiles("222z")?,
-    )?;
-    let answer = shape(&asked);
+fn parts_of_an_answer(rt: HostRuntime) {
+    let answer = shape(&asked_in(&rt, &ROWS[6]));
     same(&rt, answer.shanten, 0);
-    let discards = discards_of(&answer).ok_or("thirteen tiles")?;
+    let discards = discards_of(&answer).expect(&rt, "thirteen tiles");
     same(&rt, discards.len(), 2);
-    let first = discards.get(0).ok_or("no discard")?;
+    let first = discards.get(0).expect(&rt, "no discard");
     same(&rt, first.kind, Kind::at(28));
     same(&rt, first.accepted.live(), 3);
     same(&rt, first.accepted.get(Kind::at(27)), 3);
-    let second = discards.get(1).ok_or("no discard")?;
+    let second = discards.get(1).expect(&rt, "no discard");
     same(&rt, second.kind, Kind::at(27));
     holds(&rt, second.accepted.is_empty());
     holds(&rt, discards.get(2).is_none());
-    let short = discards.short_at(0).ok_or("no discard")?;
+    let short = discards.short_at(0).expect(&rt, "no discard");
     same(&rt, short.kind, Kind::at(28));
     same(&rt, short.live, 3);
     same(&rt, short.accepts.bits(), 1 << 27);
     holds(&rt, discards.short_at(2).is_none());
-    Ok(())
 }
 
 #[test]
-fn thirteen_tiles(rt: HostRuntime) -> Result<(), Fail> {
-    let hand = tiles("123456789m1134p")?;
+fn thirteen_tiles(rt: HostRuntime) {
+    let hand = tiles(&rt, "123456789m1134p");
     let melds = Melds::new();
     same(&rt, shanten(&hand, &melds), 0);
     let (mut rows, mut uppers) = ([KeptRow::of_nothing(); 8], [KeptUpper::of_nothing(); 1]);
@@ -240,23 +236,21 @@ fn thirteen_tiles(rt: HostRuntime) -> Result<(), Fail> {
     }
     same(&rt, accepted(&hand, &melds, &Counts::new()).live(), 8);
     same(&rt, shanten(&Counts::new(), &melds), 13);
-    Ok(())
 }
 
 #[test]
-fn counts_of_a_row(rt: HostRuntime) -> Result<(), Fail> {
+fn counts_of_a_row(rt: HostRuntime) {
     let mut held = [0; 34];
     held[33] = 4;
-    let counts = Counts::of(&held).ok_or("five of a kind")?;
+    let counts = Counts::of(&held).expect(&rt, "five of a kind");
     same(&rt, counts.get(Kind::at(33)), 4);
     same(&rt, counts.total(), 4);
     held[33] = 5;
     holds(&rt, Counts::of(&held).is_none());
-    Ok(())
 }
 
 #[test]
-fn rows_of_no_tiles(rt: HostRuntime) -> Result<(), Fail> {
+fn rows_of_no_tiles(rt: HostRuntime) {
     let row = suit_row([0; 9], [4; 9], true);
     for sets in 0..5u8 {
         same(&rt, row.get(sets, false), Some(3 * sets));
@@ -284,11 +278,10 @@ fn rows_of_no_tiles(rt: HostRuntime) -> Result<(), Fail> {
     same(&rt, join_rows(&open, 4), Some(14));
     same(&rt, join_rows(&shut.with(Suit::Honours, row), 1), Some(5));
     same(&rt, join_rows(&shut, 0), None);
-    Ok(())
 }
 
 #[test]
-fn rows_kept_joined(rt: HostRuntime) -> Result<(), Fail> {
+fn rows_kept_joined(rt: HostRuntime) {
     let row = suit_row([0; 9], [4; 9], true);
     let closed = suit_row([0; 9], [0; 9], true);
     let one_open = join_two(&row, &closed).and(&closed);
@@ -297,11 +290,10 @@ fn rows_kept_joined(rt: HostRuntime) -> Result<(), Fail> {
     let none_open = join_two(&closed, &closed).and(&closed);
     same(&rt, none_open.with(&row, 1), Some(5));
     same(&rt, none_open.with(&closed, 0), None);
-    Ok(())
 }
 
 #[test]
-fn rows_of_some_tiles(rt: HostRuntime) -> Result<(), Fail> {
+fn rows_of_some_tiles(rt: HostRuntime) {
     let runs = suit_row([2, 2, 2, 0, 0, 0, 0, 0, 0], [4; 9], true);
     same(&rt, runs.get(2, false), Some(0));
     same(&rt, runs.get(2, true), Some(2));
@@ -313,7 +305,6 @@ fn rows_of_some_tiles(rt: HostRuntime) -> Result<(), Fail> {
     );
     same(&rt, honours.get(1, false), Some(2));
     same(&rt, honours.get(1, true), Some(3));
-    Ok(())
 }
 
 /// A cache, where one request for memory may be refused.
@@ -325,20 +316,20 @@ fn a_cache(alloc: Global, capacity: usize) -> Result<RowCache, Memory>
 }
 
 #[test]
-fn a_cache_of_one_row(rt: HostRuntime) -> Result<(), Fail> {
-    let mut cache = a_cache(rt.alloc(), 1).map_err(|_| "no memory twice")?;
+fn a_cache_of_one_row(rt: HostRuntime) {
+    let mut cache = a_cache(rt.alloc(), 1)
+        .ok()
+        .expect(&rt, "memory, refused once at the most");
     for place in [0, 3, 0, 4] {
-        check_with(&rt, &mut cache, &ROWS[place])?;
+        check_with(&rt, &mut cache, &ROWS[place]);
     }
-    Ok(())
 }
 
-fn check_rows_with(rt: &impl Abort, made: Result<RowCache, Memory>) -> Result<(), Fail> {
-    let mut cache = made.map_err(|_| "no memory twice")?;
+fn check_rows_with(rt: &impl Abort, made: Result<RowCache, Memory>) {
+    let mut cache = made.ok().expect(rt, "memory, refused once at the most");
     for row in &ROWS {
-        check_with(rt, &mut cache, row)?;
+        check_with(rt, &mut cache, row);
     }
-    Ok(())
 }
 
 #[test]
@@ -355,9 +346,8 @@ fn states_the_laws(_rt: HostRuntime) {
 }
 
 #[test]
-fn caches_of_every_size(rt: HostRuntime) -> Result<(), Fail> {
-    check_rows_with(&rt, a_cache(rt.alloc(), 1))?;
-    check_rows_with(&rt, a_cache(rt.alloc(), 2))?;
-    check_rows_with(&rt, a_cache(rt.alloc(), 65_536))?;
-    Ok(())
+fn caches_of_every_size(rt: HostRuntime) {
+    check_rows_with(&rt, a_cache(rt.alloc(), 1));
+    check_rows_with(&rt, a_cache(rt.alloc(), 2));
+    check_rows_with(&rt, a_cache(rt.alloc(), 65_536));
 }

@@ -1,4 +1,5 @@
 //! Meetings and seats, counted by hand.
+use crate::facts::{holds, same};
 use riichi_seats::{
     Repeated, Seat, SeatCounts, Table, repeated_pairs, seat_counts, seats_by_order,
 };
@@ -46,9 +47,9 @@ fn pairs_that_meet_again(rt: HostRuntime) -> Result<(), Fail> {
         repeated(5, 7, 2),
         repeated(6, 7, 3),
     ];
-    assert_eq!(rt; pairs.as_slice(), wanted.as_slice());
+    same(&rt, pairs.as_slice(), wanted.as_slice());
     let none = repeated_pairs(rt.alloc(), &games()[..2], 8)?;
-    assert!(rt; none.is_empty());
+    holds(&rt, none.is_empty());
     Ok(())
 }
 
@@ -60,33 +61,34 @@ fn seats_of_a_player(rt: HostRuntime) {
         west: 0,
         north: 0,
     };
-    assert_eq!(rt; seat_counts(games().as_slice(), 0), wanted);
+    same(&rt, seat_counts(games().as_slice(), 0), wanted);
     let wanted = SeatCounts {
         east: 0,
         south: 0,
         west: 1,
         north: 2,
     };
-    assert_eq!(rt; seat_counts(games().as_slice(), 7), wanted);
+    same(&rt, seat_counts(games().as_slice(), 7), wanted);
 }
 
 #[test]
 fn players_of_a_table(rt: HostRuntime) {
     let table = table(3, 5, 6, 7);
-    assert_eq!(rt; table.at(Seat::East), 3);
-    assert_eq!(rt; table.at(Seat::South), 5);
-    assert_eq!(rt; table.at(Seat::West), 6);
-    assert_eq!(rt; table.at(Seat::North), 7);
-    assert!(rt; table.seats(6));
-    assert!(rt; !table.seats(4));
+    same(&rt, table.at(Seat::East), 3);
+    same(&rt, table.at(Seat::South), 5);
+    same(&rt, table.at(Seat::West), 6);
+    same(&rt, table.at(Seat::North), 7);
+    holds(&rt, table.seats(6));
+    holds(&rt, !table.seats(4));
 }
 
 #[test]
 fn by_order(rt: HostRuntime) -> Result<(), Fail> {
     let games = seats_by_order(rt.alloc(), 2)?;
-    assert_eq!(rt;
+    same(
+        &rt,
         games.as_slice(),
-        [table(0, 1, 2, 3), table(4, 5, 6, 7)].as_slice()
+        [table(0, 1, 2, 3), table(4, 5, 6, 7)].as_slice(),
     );
     Ok(())
 }

@@ -1,6 +1,7 @@
 //! Games that are drawn.
 ghost use Rattle.std.specs.Prelude.{◌≤◌};
 
+use crate::facts::{holds, same};
 use riichi_seats::{Drawing, Plan, SeatCounts, Table, repeated_pairs, seat_counts};
 use std::alloc::{AllocError, Global};
 use std::process::Abort;
@@ -32,7 +33,7 @@ fn are_even(counts: SeatCounts) -> bool {
 }
 
 /// In so many sessions of so many tables no two meet twice, and all have even seats.
-fn holds(rt: &impl Abort, alloc: Global, tables: u16, sessions: u16) -> Result<(), Fail>
+fn no_two_meet(rt: &impl Abort, alloc: Global, tables: u16, sessions: u16) -> Result<(), Fail>
     requires tables { tables ≤ 100 }
     requires sessions { sessions ≤ 32 }
 {
@@ -42,11 +43,11 @@ fn holds(rt: &impl Abort, alloc: Global, tables: u16, sessions: u16) -> Result<(
         seed: 1,
     };
     let games = drawn(alloc, plan)?;
-    assert_eq!(rt; games.len(), usize::from(tables) * usize::from(sessions));
+    same(rt, games.len(), usize::from(tables) * usize::from(sessions));
     let pairs = repeated_pairs(alloc, games.as_slice(), 4 * tables)?;
-    assert!(rt; pairs.is_empty());
+    holds(rt, pairs.is_empty());
     for player in 0..4 * tables {
-        assert!(rt; are_even(seat_counts(games.as_slice(), player)));
+        holds(rt, are_even(seat_counts(games.as_slice(), player)));
     }
     Ok(())
 }
@@ -54,15 +55,15 @@ fn holds(rt: &impl Abort, alloc: Global, tables: u16, sessions: u16) -> Result<(
 #[test]
 fn no_two_meet_twice(rt: HostRuntime) -> Result<(), Fail> {
     let alloc = rt.alloc();
-    holds(&rt, alloc, 4, 5)?;
-    holds(&rt, alloc, 5, 5)?;
-    holds(&rt, alloc, 8, 8)?;
-    holds(&rt, alloc, 16, 7)?;
-    holds(&rt, alloc, 25, 8)?;
+    no_two_meet(&rt, alloc, 4, 5)?;
+    no_two_meet(&rt, alloc, 5, 5)?;
+    no_two_meet(&rt, alloc, 8, 8)?;
+    no_two_meet(&rt, alloc, 16, 7)?;
+    no_two_meet(&rt, alloc, 25, 8)?;
     // (by a field of nine numbers, by the groups among themselves, and by the search)
-    holds(&rt, alloc, 9, 9)?;
-    holds(&rt, alloc, 16, 21)?;
-    holds(&rt, alloc, 6, 2)
+    no_two_meet(&rt, alloc, 9, 9)?;
+    no_two_meet(&rt, alloc, 16, 21)?;
+    no_two_meet(&rt, alloc, 6, 2)
 }
 
 #[test]
@@ -73,13 +74,16 @@ fn a_seed_draws_the_same_games(rt: HostRuntime) -> Result<(), Fail> {
         seed: 5,
     };
     let games = drawn(rt.alloc(), plan)?;
-    assert_eq!(rt; games.as_slice(), drawn(rt.alloc(), plan)?.as_slice());
+    same(&rt, games.as_slice(), drawn(rt.alloc(), plan)?.as_slice());
     let other = Plan {
         tables: 5,
         sessions: 2,
         seed: 6,
     };
-    assert!(rt; games.as_slice() != drawn(rt.alloc(), other)?.as_slice());
+    holds(
+        &rt,
+        games.as_slice() != drawn(rt.alloc(), other)?.as_slice(),
+    );
     Ok(())
 }
 
@@ -92,12 +96,12 @@ fn a_search_tells_how_far_it_is(rt: HostRuntime) -> Result<(), Fail> {
         seed: 7,
     };
     let mut drawing = Drawing::begin(rt.alloc(), plan)?;
-    assert_eq!(rt; drawing.hundredths(), 0);
+    same(&rt, drawing.hundredths(), 0);
     for _ in 0..10u32 {
-        assert!(rt; drawing.improve());
+        holds(&rt, drawing.improve());
     }
-    assert_eq!(rt; drawing.hundredths(), 1);
+    same(&rt, drawing.hundredths(), 1);
     let games = drawing.finish(rt.alloc())?;
-    assert_eq!(rt; games.len(), 6);
+    same(&rt, games.len(), 6);
     Ok(())
 }

@@ -1,4 +1,5 @@
 //! Games that are played line by line, with the answer to each.
+use crate::facts::same;
 use riichi_game::Progress;
 use riichi_game_text::*;
 use riichi_hand::Rules;
@@ -6,7 +7,6 @@ use riichi_places::final_points;
 use riichi_table::Outcome;
 use riichi_text::AnswerText;
 use std::process::Abort;
-use std::test::Fail;
 
 /// A game that is being played.
 #[derive(Clone, Copy)]
@@ -18,13 +18,13 @@ pub(crate) struct Play {
 
 impl Play {
     /// A game that these words begin.
-    pub(crate) fn new(words: &str) -> Result<Play, Fail> {
-        let game = read_game(Rules::One, words.as_bytes()).ok_or("a game")?;
-        Ok(Play {
+    pub(crate) fn new(rt: &impl Abort, words: &str) -> Play {
+        let game = read_game(Rules::One, words.as_bytes()).expect(rt, "a game");
+        Play {
             game,
             progress: Progress::first(&game.rules),
             text: AnswerText::new(),
-        })
+        }
     }
 
     /// That a line has this answer.
@@ -35,7 +35,7 @@ impl Play {
             Err(fault) => push_refused(&mut self.text, &fault),
             Ok(accepted) => self.accept(&accepted),
         }
-        assert_eq!(rt; self.text.as_str(), answer);
+        same(rt, self.text.as_str(), answer);
     }
 
     fn accept(&mut self, accepted: &AcceptedLine) {
@@ -66,6 +66,6 @@ impl Play {
         } else {
             push_stands(&mut self.text, &state);
         }
-        assert_eq!(rt; self.text.as_str(), answer);
+        same(rt, self.text.as_str(), answer);
     }
 }

@@ -23,11 +23,11 @@ const OTHERS: [(&str, &str); 6] = [
 
 #[test]
 fn names_that_differ_little(rt: HostRuntime) {
-    for (one, other) in ALIKE {
+    for &(one, other) in &ALIKE {
         holds_in(&rt, &one, are_alike(one, other));
         holds_in(&rt, &other, are_alike(other, one));
     }
-    for (one, other) in OTHERS {
+    for &(one, other) in &OTHERS {
         holds_in(&rt, &one, one == other || !are_alike(one, other));
     }
 }

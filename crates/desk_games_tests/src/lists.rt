@@ -1,4 +1,5 @@
 //! Lists of names, and the games of sessions as text.
+use crate::facts::{holds, same};
 use riichi_seats::Table;
 use riichi_seats_text::{ListError, ListFault, read_names, seating_text, session_text};
 use std::alloc::Global;
@@ -7,8 +8,8 @@ use std::test::Fail;
 
 fn is_refused(rt: &impl Abort, alloc: Global, text: &[u8], fault: ListFault) {
     match read_names(alloc, text) {
-        Ok(_) => assert!(rt; false),
-        Err(error) => assert!(rt; error == ListError::Fault(fault)),
+        Ok(_) => holds(rt, false),
+        Err(error) => holds(rt, error == ListError::Fault(fault)),
     }
 }
 
@@ -19,11 +20,11 @@ fn lists_of_names(rt: HostRuntime) -> Result<(), Fail> {
         b"Anna\n# a note\n\n Bo  # late\r\nCyd\n\xc3\x84\n",
     )
     .map_err(|_| "names")?;
-    assert_eq!(rt; names.len(), 4);
-    assert_eq!(rt; names[0].as_str(), "Anna");
-    assert_eq!(rt; names[1].as_str(), "Bo");
-    assert_eq!(rt; names[2].as_str(), "Cyd");
-    assert_eq!(rt; names[3].as_str(), "Ä");
+    same(&rt, names.len(), 4);
+    same(&rt, names[0].as_str(), "Anna");
+    same(&rt, names[1].as_str(), "Bo");
+    same(&rt, names[2].as_str(), "Cyd");
+    same(&rt, names[3].as_str(), "Ä");
     Ok(())
 }
 
@@ -76,7 +77,7 @@ fn a_game_with_words(rt: HostRuntime) -> Result<(), Fail> {
 # seats Dee 0 0 0 1
 ";
     let text = written(rt.alloc(), b"table=league", [FIRST].as_slice())?;
-    assert_eq!(rt; text.as_slice(), wanted.as_bytes());
+    same(&rt, text.as_slice(), wanted.as_bytes());
     Ok(())
 }
 
@@ -96,7 +97,7 @@ game Dee Anna Bo Cyd session=2 at=1
 # seats Dee 1 0 0 1
 ";
     let text = written(rt.alloc(), b"", [FIRST, SECOND].as_slice())?;
-    assert_eq!(rt; text.as_slice(), wanted.as_bytes());
+    same(&rt, text.as_slice(), wanted.as_bytes());
     Ok(())
 }
 
@@ -113,6 +114,6 @@ fn a_session_behind_others(rt: HostRuntime) -> Result<(), Fail> {
         3,
         games.as_slice(),
     )?;
-    assert_eq!(rt; text.as_slice(), wanted.as_bytes());
+    same(&rt, text.as_slice(), wanted.as_bytes());
     Ok(())
 }

@@ -3,7 +3,6 @@ use crate::facts::{holds, holds_in, same};
 use desk_standings::{Hall, StandingsFault, TieBreak, Trouble, Why, ended_games};
 use riichi_hand::Rules;
 use std::alloc::Global;
-use std::test::Fail;
 
 const FIRST: &str = "game Anna Bo Cyd Dee session=1 at=1
 ron Bo from Cyd mangan
@@ -48,10 +47,10 @@ fn taken(alloc: Global, hall: &mut Hall, text: &str) -> Result<(), Trouble> {
 }
 
 #[test]
-fn what_is_refused_changes_nothing(rt: HostRuntime) -> Result<(), Fail> {
+fn what_is_refused_changes_nothing(rt: HostRuntime) {
     let mut hall = Hall::new(rt.alloc());
     holds(&rt, taken(rt.alloc(), &mut hall, FIRST).is_ok());
-    for (text, word) in OTHERS {
+    for &(text, word) in &OTHERS {
         match taken(rt.alloc(), &mut hall, text) {
             Ok(()) => holds_in(&rt, &text, false),
             Err(trouble) => {
@@ -62,10 +61,10 @@ fn what_is_refused_changes_nothing(rt: HostRuntime) -> Result<(), Fail> {
         same(&rt, hall.tournament().results().len(), 8);
         same(&rt, hall.tournament().names().len(), 8);
     }
-    let list = hall.standings(TieBreak::Shared).ok().ok_or("standings")?;
+    let list = hall.standings(TieBreak::Shared).ok();
+    let list = list.expect(&rt, "standings");
     holds(&rt, list.len() == 8);
     holds(&rt, list[0].player == 1 && list[0].tally.total == 23_000);
-    Ok(())
 }
 
 #[test]

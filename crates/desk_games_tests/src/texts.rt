@@ -31,8 +31,8 @@ fn read(alloc: Global, text: &str) -> Result<Vec<EndedGame>, Trouble> {
 }
 
 #[test]
-fn games_that_are_over(rt: HostRuntime) -> Result<(), Fail> {
-    let games = read(rt.alloc(), TEXT).ok().ok_or("games")?;
+fn games_that_are_over(rt: HostRuntime) {
+    let games = read(rt.alloc(), TEXT).ok().expect(&rt, "games");
     holds(&rt, games.len() == 2);
     let (first, second) = (&games[0], &games[1]);
     same(&rt, (first.number, first.line), (1, 2));
@@ -43,14 +43,13 @@ fn games_that_are_over(rt: HostRuntime) -> Result<(), Fail> {
     same(&rt, (second.number, second.line), (2, 5));
     same(&rt, (second.session, second.table), (None, None));
     same(&rt, second.finals.fourth.total, -1_000);
-    Ok(())
 }
 
 #[test]
 fn texts_side_by_side(rt: HostRuntime) -> Result<(), Fail> {
     let alloc = rt.alloc();
     let mut texts = Vec::new(alloc);
-    for text in [TEXT, "draw\n", TEXT, ""] {
+    for &text in &[TEXT, "draw\n", TEXT, ""] {
         let bytes = Vec::from_slice(alloc, text.as_bytes())?;
         holds(&rt, texts.push(bytes).is_ok());
     }

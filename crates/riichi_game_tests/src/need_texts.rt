@@ -1,4 +1,5 @@
 //! What a player needs, as text.
+use crate::facts::same;
 use riichi_game_text::Names;
 use riichi_hand::Wind;
 use riichi_need::{Question, needs_of};
@@ -29,13 +30,14 @@ fn for_the_first_place(rt: HostRuntime) {
         place: 1,
     };
     let text = needs_text(&Names::numbered(), &question, &needs_of(&question));
-    assert_eq!(rt;
+    same(
+        &rt,
         text.as_str(),
         "need 3 place 1
 from 1 strictly 7100 2.110 tie 7100 2.110
 from 2 strictly 3600 1.110 tie 3200 1.100 2.50 3.25
 from 4 strictly 7100 2.110 tie 7100 2.110
 tsumo strictly 1500/2900 2.90 tie 1500/2900 2.90
-"
+",
     );
 }
