@@ -2,15 +2,20 @@
 use Rattle.std.proofs.Common.{◌≡◌, ℕ, zero, suc, ℤ, ◌+◌, ◌<◌, ◌≤◌, Bool, true, false, List, [], ◌∷◌, ◌++◌, get_or, length, map, take, refl, sym, subst, ap, ◌∙◌, append_assoc, arith}
 use Rattle.std.proofs.lemmas.List.{append-nil, get_or-map, length-map, take-map}
 use Rattle.std.proofs.lemmas.Bool.{leb-true}
-use Rattle.std.specs.Prelude.{◌&&◌, ◌||◌, All, Option, codes, if◌then◌else◌, nat_le, nat_lt}
+use Rattle.std.specs.Prelude.{◌&&◌, ◌||◌, All, Option, codes, if◌then◌else◌, nat_le, nat_lt, slice_index_or}
 use Rattle.std.specs.List.{flat_map}
 use Rattle.riichi_hand.specs.Hand.{is_thirteen}
 use Rattle.riichi_hand.specs.HandParts.{ShapeParts}
 use Rattle.riichi_shape.specs.Discards.{discards_of}
 use Rattle.riichi_shape.specs.EveryWinning.{distance_of, shanten_of}
+use Rattle.riichi_deeper.specs.Drawn.{parts_without}
+use Rattle.riichi_chances.proofs.OddsLemmas.{each_parts, parts_of_all}
+use Rattle.riichi_chances.specs.Chances.{AreAfter, AreAfterAtMost, AreAtMost, AreChances, parts_told}
 use Rattle.riichi_chances.specs.Draws.{unseen_of}
 use Rattle.riichi_chances.specs.Graph.{discard_kinds}
+use Rattle.riichi_chances.specs.Laws.{IsFourteen}
 use Rattle.riichi_chances.specs.Odds.{ArePartsOfAll, after_discard, best_odds, each_odds_at, odds_after, odds_at, odds_of}
+use Rattle.riichi_chances.specs.declared.chances.Chances.{Chances}
 use Rattle.riichi_chances.specs.declared.discards.DiscardChances.{DiscardChances}
 use Rattle.riichi_chances.specs.declared.odds.DiscardOdds.{DiscardOdds}
 use Rattle.riichi_chances.specs.declared.odds.Odds.{Odds}
@@ -20,7 +25,7 @@ use Rattle.riichi_study.specs.Findings.{Chances}
 use Rattle.desk_json.specs.Parts.{listed, quoted_kind}
 use Rattle.desk_study.specs.Answers.{listed_next, something_there, told_in}
 use Rattle.desk_study.specs.ChanceObjects.{after_json, beaten_json, beaten_kind, best_json, chances_members, chances_name, counted_json, discard_json, front_json, hand_json}
-use Rattle.desk_study.specs.Found.{AreFound, AreParts, ArePartsOfEach, IsFound, each_in, each_json, each_of, end_json, first_json, first_told, found_members, found_reasons, found_text, found_told, one_json}
+use Rattle.desk_study.specs.Found.{AreAllParts, AreFound, AreParts, ArePartsOfEach, IsFound, each_in, each_json, each_of, end_json, first_json, first_told, found_members, found_reasons, found_text, found_told, one_json}
 use Rattle.desk_study.specs.declared.form.StudiesForm.{StudiesForm}
 use Rattle.desk_study.specs.declared.form.StudiesForm.TheVariants.{Answers, Explained, Objects}
 use Rattle.desk_study.specs.declared.found.FoundChances.{FoundChances}
@@ -54,14 +59,44 @@ module _ (hand : Odds → List ℕ) (each_told : List DiscardOdds → List ℕ) 
   odds_told (Discards each) are = ap each_told (are.odds_are turns (omega arith)) ∙ sym (ap counted_told are.fourteen) ∙ sym (ap all_told are.counted)
 
 -- those of one number of turns after each discard are parts of some draws
+parts_at : (turns : ℕ) (some : List DiscardChances) → ArePartsOfEach turns some → All (λ (one : DiscardOdds). ArePartsOfAll one.odds) (each_odds_at some turns)
+parts_at turns [] are = search
+parts_at turns (one ∷ some) are = (are.0 turns (omega arith), parts_at turns some are.1)
+
 pub parts_of_each : (found : FoundByTurn) (turns : ℕ) → AreParts turns found → All (λ (one : DiscardOdds). ArePartsOfAll one.odds) (each_of turns found)
-parts_of_each Uncounted turns are = search
-parts_of_each (Hand chances) turns are = search
-parts_of_each (Discards each) turns are = at_turns each.items are
-  where
-    at_turns : (some : List DiscardChances) → ArePartsOfEach turns some → All (λ (one : DiscardOdds). ArePartsOfAll one.odds) (each_odds_at some turns)
-    at_turns [] are = search
-    at_turns (one ∷ some) are = (are.0, at_turns some are.1)
+parts_of_each Uncounted turns are = parts_at turns [] search
+parts_of_each (Hand chances) turns are = parts_at turns [] search
+parts_of_each (Discards each) turns are = parts_at turns each.items are
+
+-- what is told by so many turns is told by fewer
+less_chances : (parts : ShapeParts) (turns count : ℕ) (chances : Chances) → count ≤ turns → AreChances parts turns chances → AreChances parts count chances
+less_chances parts turns count chances low are = record {
+  ready = λ k few. are.ready k (omega (arith, few, low));
+  win = λ k few. are.win k (omega (arith, few, low));
+  all = λ k few. are.all k (omega (arith, few, low));
+  ready_few = λ k few. are.ready_few k (omega (arith, few, low));
+  win_few = λ k few. are.win_few k (omega (arith, few, low));
+}
+
+less_most : (parts : ShapeParts) (unseen turns count : ℕ) (chances : Chances) → count ≤ turns → AreAtMost parts unseen turns chances → AreAtMost parts unseen count chances
+less_most parts unseen turns count chances low most = record { ready = λ k few. most.ready k (omega (arith, few, low)); win = λ k few. most.win k (omega (arith, few, low)) }
+
+-- of thirteen tiles they are parts of some draws
+pub hand_parts : (parts : ShapeParts) (turns : ℕ) (chances : Chances) → AreChances parts turns chances → AreAtMost parts (unseen_of parts) turns chances → turns ≤ unseen_of parts → AreAllParts turns chances
+hand_parts parts turns chances are most few = λ count low. parts_of_all parts parts count chances (less_chances parts turns count chances low are) (less_most parts (unseen_of parts) turns count chances low most) (omega (arith, low, few))
+
+-- and after each best discard of fourteen
+by_each : (turns : ℕ) (each : List DiscardChances) → ((count : ℕ) → count ≤ turns → All (λ (one : DiscardChances). ArePartsOfAll (odds_at one.chances count)) each) → ArePartsOfEach turns each
+by_each turns [] at = search
+by_each turns (one ∷ each) at = (λ count low. (at count low).0, by_each turns each (λ count low. (at count low).1))
+
+pub discards_parts : (drawn : ShapeParts) (turns : ℕ) (each : List DiscardChances) → IsFourteen drawn → map (λ (one : DiscardChances). one.kind) each ≡ discard_kinds (discards_of drawn.tiles drawn.melds drawn.seen) → AreAfter drawn turns each → AreAfterAtMost drawn turns each → turns ≤ unseen_of drawn → ArePartsOfEach turns each
+discards_parts drawn turns each is kinds are most few =
+    by_each turns each
+    (λ count low. each_parts drawn count each is kinds
+    (λ place one inside. less_chances (parts_without drawn (slice_index_or each place one).kind) turns count (slice_index_or each place one).chances low (are place one inside))
+    (λ place one inside. less_most (parts_told drawn (slice_index_or each place one).kind) (unseen_of (parts_without drawn (slice_index_or each place one).kind)) turns count (slice_index_or each place one).chances low (most place one inside))
+    (omega (arith, low, few)))
 
 -- ---- by each number of turns
 

@@ -32,13 +32,17 @@ each_in (Discards each) = each.items
 abbrev pub each_of : ℕ → FoundByTurn → List DiscardOdds
 each_of turns found = each_odds_at (each_in found) turns
 
--- by so many turns those after each discard are parts of some draws
+-- by each number of turns up to one they are parts of some draws
+abbrev pub AreAllParts : ℕ → Chances → Type 0
+AreAllParts turns chances = (count : ℕ) → count ≤ turns → ArePartsOfAll (odds_at chances count)
+
+-- after each discard too
 abbrev pub ArePartsOfEach : ℕ → List DiscardChances → Type 0
-ArePartsOfEach turns each = All (λ one. ArePartsOfAll (odds_at one.chances turns)) each
+ArePartsOfEach turns each = All (λ one. AreAllParts turns one.chances) each
 
 abbrev pub AreParts : ℕ → FoundByTurn → Type 0
 AreParts turns Uncounted = Unit {0}
-AreParts turns (Hand chances) = ArePartsOfAll (odds_at chances turns)
+AreParts turns (Hand chances) = AreAllParts turns chances
 AreParts turns (Discards each) = ArePartsOfEach turns each.items
 
 pub record AreOfHand (parts : ShapeParts) (turns : ℕ) (chances : Chances) : Type 0 where

@@ -99,7 +99,7 @@ pub(crate) fn push_first(text: &mut JsonText, found: &FoundByTurn, turns: u8)
 /// Writes the chances of thirteen tiles, by so many turns and by each number of turns up to that.
 fn push_hand(text: &mut JsonText, chances: &Chances, turns: u8)
     requires turns { turns ≤ 18 }
-    requires parts { ArePartsOfAll (odds_at chances.now turns) }
+    requires parts { spec.AreAllParts turns chances.now }
     requires room { array_string_len text.old + MOST_ODDS_MEMBERS + MOST_BY_TURN
         ≤ JSON_ROOM }
     ensures bytes { text.new.bytes
@@ -120,7 +120,7 @@ pub(crate) fn push_after(
     turns: u8,
 )
     requires turns { turns ≤ 18 }
-    requires parts { ArePartsOfAll (odds_at one.now.chances turns) }
+    requires parts { spec.AreAllParts turns one.now.chances }
     requires few { length others.now ≤ 14 }
     requires room { array_string_len text.old + MOST_AFTER ≤ JSON_ROOM }
     ensures bytes { text.new.bytes

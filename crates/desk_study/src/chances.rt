@@ -2,7 +2,7 @@
 ghost use Rattle.std.specs.Prelude.{◌≡◌, ◌+◌, ◌*◌, ◌≤◌, ◌++◌, All, length};
 ghost use Rattle.std.specs.List.{flat_map};
 ghost use Rattle.arrayvec.specs.ArrayString.{array_string_len};
-ghost use Rattle.riichi_chances.specs.Odds.{ArePartsOfAll, odds_at};
+ghost use Rattle.riichi_chances.specs.Odds.{ArePartsOfAll};
 ghost use Rattle.desk_json.specs.Parts.{comma_if};
 ghost use Rattle.riichi_study.specs.ChanceTexts.{uncounted_reason};
 ghost use Rattle.desk_study.specs.Answers as room;
@@ -39,8 +39,8 @@ const MOST_WORDS: usize = MOST_UNCOUNTED + MOST_AFTER_REASON + 14 * MOST_AFTER;
 /// The bytes of the longest members.
 const MOST_MEMBERS: usize = MOST_FRONT + MOST_FIRST_MEMBER + 14 * MOST_MEMBER + "]}".len();
 
-/// The bytes of the longest answer.
-const MOST_ANSWER: usize = MOST_LINE + MOST_WORDS + MOST_MEMBERS;
+/// The bytes of the longest answer, which is that by members: they are more than a line with its words.
+const MOST_ANSWER: usize = MOST_MEMBERS;
 
 /// Puts what is found of a question of chances.
 pub(crate) fn put_chances(form: StudiesForm, found: &FoundChances, outbox: &mut Outbox)
@@ -190,16 +190,12 @@ fn put_members(found: &FoundChances, outbox: &mut Outbox)
     ensures room { length outbox.new.bytes.items
         ≤ length outbox.old.bytes.items + MOST_MEMBERS }
 {
+    let turns = found.turns.count();
     outbox.object.clear();
-    push_members_front(
-        &mut outbox.object,
-        found.shanten,
-        found.turns.count(),
-        found.unseen,
-    );
-    push_first(&mut outbox.object, &found.by_turn, found.turns.count());
+    push_members_front(&mut outbox.object, found.shanten, turns, found.unseen);
+    push_first(&mut outbox.object, &found.by_turn, turns);
     put_object_piece(outbox);
-    put_each_member(found.by_turn.discards(), found.turns.count(), outbox);
+    put_each_member(found.by_turn.discards(), turns, outbox);
     outbox.object.clear();
     push_end(&mut outbox.object, &found.by_turn);
     put_object_piece(outbox);
@@ -233,7 +229,7 @@ fn put_member(
     outbox: &mut Outbox,
 )
     requires turns { turns ≤ 18 }
-    requires parts { ArePartsOfAll (odds_at one.now.chances turns) }
+    requires parts { spec.AreAllParts turns one.now.chances }
     requires few { length others.now ≤ 14 }
     requires room { room.HasRoomFor MOST_MEMBER outbox.old }
     ensures bytes { outbox.new.bytes.items ≡ outbox.old.bytes.items

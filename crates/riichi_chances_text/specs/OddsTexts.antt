@@ -36,9 +36,9 @@ odds_members odds =
 
 -- ---- by each number of turns
 
--- of all draws those that make a hand ready, and those by which it wins: numbers that may be too great for programs
+-- the chances to be ready and to win, to four digits
 abbrev pub turn_json : Odds → List ℕ
-turn_json odds = codes "{\"ready\":\"" ++ decimal odds.ready ++ codes "\",\"win\":\"" ++ decimal odds.win ++ codes "\",\"draws\":\"" ++ decimal odds.all ++ codes "\"}"
+turn_json odds = codes "{\"ready\":" ++ decimal_text (part_of odds.ready odds) ++ codes ",\"win\":" ++ decimal_text (part_of odds.win odds) ++ codes "}"
 
 abbrev pub comma_if : Bool → List ℕ
 comma_if later = if later then codes "," else []

@@ -9,6 +9,5 @@ use Rattle.desk_study.proofs.chance_objects.push_discard.Goals as goal
 pub returns-clause-bytes : goal.returns-clause-bytes
 returns-clause-bytes c =
     let before : List ℕ = c.args.text.now.bytes ++ comma_if c.args.later in
-    let one = c.args.one.now in
-    pushed_five before (codes "{\"discard\":\"") (kind_text one.kind) (codes "\",") (odds_members one.odds) (codes ",\"surely_over\":[")
+    pushed_five before (codes "{\"discard\":\"") (kind_text c.args.kind) (codes "\",") (odds_members c.args.odds.now) (codes ",\"surely_over\":[")
     (c.push_str.ensures.bytes ∙ ap (λ (t : List ℕ). t ++ codes "{\"discard\":\"") c.push_comma_if.ensures.bytes) c.push_kind.ensures.bytes c.push_str-2.ensures.bytes c.push_odds_members.ensures.bytes c.push_str-3.ensures.bytes

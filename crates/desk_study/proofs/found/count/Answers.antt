@@ -1,12 +1,11 @@
 use Rattle.std.proofs.Common.{◌≤◌, length, subst, arith}
-use Rattle.riichi_chances.proofs.OddsLemmas.{each_parts, fourteen_odds, parts_of_all, thirteen_odds}
+use Rattle.riichi_chances.proofs.OddsLemmas.{fourteen_odds, thirteen_odds}
 use Rattle.riichi_chances.specs.Draws.{unseen_of}
 use Rattle.riichi_chances.proofs.ReachableLemmas.{fourteen_too_many, on_err, thirteen_too_many}
 use Rattle.riichi_chances.specs.Graph.{most_hands_in}
-use Rattle.riichi_chances.specs.Odds.{ArePartsOfAll, odds_at}
 use Rattle.desk_study.proofs.FindingLemmas.{fourteen_by, not_thirteen, thirteen_by}
-use Rattle.desk_study.proofs.FoundLemmas.{counted_few}
-use Rattle.desk_study.specs.Found.{ArePartsOfEach}
+use Rattle.desk_study.proofs.FoundLemmas.{counted_few, discards_parts, hand_parts}
+use Rattle.desk_study.specs.Found.{AreAllParts, ArePartsOfEach}
 use Rattle.desk_study.proofs.found.count.Goals as goal
 
 pub chances_of-requires-clause-thirteen : goal.chances_of-requires-clause-thirteen
@@ -29,7 +28,7 @@ returns-in_ok-chances-in-Thirteen-clause-parts g c =
     let hand = c.args.hand.now in
     let chances = c.in_ok-chances-in-Thirteen in
     let few : c.count-draws.result ≤ unseen_of hand = omega (arith, c.count-draws.ensures.value, counted_few hand c.args.turns c.requires.counted) in
-    subst (λ turns. ArePartsOfAll (odds_at chances.chances turns)) c.count-draws.ensures.value (parts_of_all hand hand c.count-draws.result chances.chances chances.ensures.chances chances.ensures.at_most few)
+    subst (λ turns. AreAllParts turns chances.chances) c.count-draws.ensures.value (hand_parts hand c.count-draws.result chances.chances chances.ensures.chances chances.ensures.at_most few)
 
 pub returns-in_ok-each-in-Fourteen-clause-found : goal.returns-in_ok-each-in-Fourteen-clause-found
 returns-in_ok-each-in-Fourteen-clause-found g c =
@@ -45,7 +44,7 @@ returns-in_ok-each-in-Fourteen-clause-parts g c =
     let each = c.in_ok-each-in-Fourteen in
     let fourteen = c.unseen_tiles-unseen.ensures.fourteen (fourteen_by hand c.tiles-shape.ensures.shape c.args.answer.now c.requires.answer c.in-Fourteen.field-0 c.in-Fourteen.is) in
     let few : c.count-draws.result ≤ unseen_of hand = omega (arith, c.count-draws.ensures.value, counted_few hand c.args.turns c.requires.counted) in
-    subst (λ turns. ArePartsOfEach turns each.each.items) c.count-draws.ensures.value (each_parts hand c.count-draws.result each.each.items fourteen each.ensures.each each.ensures.chances each.ensures.at_most few)
+    subst (λ turns. ArePartsOfEach turns each.each.items) c.count-draws.ensures.value (discards_parts hand c.count-draws.result each.each.items fourteen each.ensures.each each.ensures.chances each.ensures.at_most few)
 
 pub returns-in_err-chances-in-Thirteen-clause-many : goal.returns-in_err-chances-in-Thirteen-clause-many
 returns-in_err-chances-in-Thirteen-clause-many g c =
