@@ -157,18 +157,14 @@ told 'discards in words' '  after 6s: won in 0.4462 of all draws, 0.4745 at most
 told 'by 6 turns it is not sure' '' "$("$program" study --explain chances 23678m23p1236789s turns=6 | grep -o 'after 2m.*surely.*')"
 told 'those that it beats, as objects' '"2m" "surely_over":["6s","9s"]' \
   "$("$program" study --json chances 23678m23p1236789s turns=18 | grep -oE '"discard":"2m"|"surely_over":\[[^]]*\]' | grep -A 1 2m | sed 's/"discard"://' | paste -s -d ' ')"
-row 0 '{"answer":"chances","shanten":0,"turns":2,"unseen":123,"counted":true,"ready":{"part":"1","whole":"1","chance":1.0000},"ready_at_most":{"part":"1","whole":"1","chance":1.0000},"win":{"part":"316","whole":"2501","chance":0.1263},"win_at_most":{"part":"316","whole":"2501","chance":0.1263},"by_turn":[{"ready":"123","win":"8","draws":"123"},{"ready":"15006","win":"1896","draws":"15006"}]}' '' \
+row 0 '{"answer":"chances","shanten":0,"turns":2,"unseen":123,"counted":true,"ready":{"part":"1","whole":"1","chance":1.0000},"ready_at_most":{"part":"1","whole":"1","chance":1.0000},"win":{"part":"316","whole":"2501","chance":0.1263},"win_at_most":{"part":"316","whole":"2501","chance":0.1263},"by_turn":[{"ready":1.0000,"win":0.0650},{"ready":1.0000,"win":0.1263}]}' '' \
   study --json chances 123456789m1134p turns=2
-# by each number of turns the draws that the questions of these turns tell in lowest terms
-told 'each number of turns as by itself' "$(for turns in {1..6}; do "$program" study chances 234m45678p34s558s turns=$turns; done | sed -E 's/.* ready ([0-9]+\/[0-9]+) .* win ([0-9]+\/[0-9]+) .*/\1 \2/')" \
-  "$("$program" study --json chances 234m45678p34s558s turns=6 | python3 -c 'import json, sys
-from fractions import Fraction
-for it in json.load(sys.stdin)["by_turn"]:
-    print(*("{0.numerator}/{0.denominator}".format(Fraction(int(it[goal]), int(it["draws"]))) for goal in ("ready", "win")))')"
-told 'after each discard too' '6s 17 49583714/481204295, 2m 17 27689599/288722577' "$("$program" study --json chances 23678m23p1236789s turns=17 | python3 -c 'import json, sys
-from fractions import Fraction
+# by each number of turns the decimals that the questions of these turns tell
+told 'each number of turns as by itself' "$(for turns in {1..6}; do "$program" study chances 234m45678p34s558s turns=$turns; done | sed -E 's/.* ready [0-9/]+ ([0-9.]+) .* win [0-9/]+ ([0-9.]+) .*/\1 \2/')" \
+  "$("$program" study --json chances 234m45678p34s558s turns=6 | grep -oE '\{"ready":[0-9.]+,"win":[0-9.]+\}' | sed -E 's/.*:([0-9.]+),.*:([0-9.]+)\}/\1 \2/')"
+told 'after each discard too' '6s 17 0.1030, 2m 17 0.0959' "$("$program" study --json chances 23678m23p1236789s turns=17 | python3 -c 'import json, sys
 told = {it["discard"]: it["by_turn"] for it in json.load(sys.stdin)["discards"]}
-print(*("{} {} {}".format(it, len(told[it]), Fraction(int(told[it][5]["win"]), int(told[it][5]["draws"]))) for it in ("6s", "2m")), sep=", ")')"
+print(*("{} {} {:.4f}".format(it, len(told[it]), told[it][5]["win"]) for it in ("6s", "2m")), sep=", ")')"
 told 'discards of chances as objects' "$("$program" study chances 23678m23p1236789s turns=6 | sed 's/ discard /\n/g' | sed -nE 's|^(..) .* win ([0-9]+)/([0-9]+) ([0-9.]+) .*|"discard":"\1" "win":{"part":"\2","whole":"\3","chance":\4}|p')" \
   "$("$program" study --json chances 23678m23p1236789s turns=6 | grep -oE '"discard":"..",|"win":\{[^}]*\}' | paste -d ' ' - - | sed 's/, / /')"
 row 0 '{"answer":"chances","shanten":6,"turns":3,"unseen":123,"counted":false}' '' study --json chances 147m258p369s1234z turns=3

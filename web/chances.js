@@ -20,7 +20,7 @@ const WIND_LETTERS = ["E", "S", "W", "N"];
 const isBelow = matchMedia("(max-width: 47.99rem), (max-height: 30rem)");
 
 // What is told of each hand or discard: as a number of its curve, as a text of the table, and what the scale of the picture says.
-const SHARE = { valueOf: ({ part, whole }) => (100 * Number(part)) / Number(whole), textOf: percent, onScale: (value) => `${value}\u00a0%` };
+const SHARE = { valueOf: ({ part, whole, chance }) => 100 * (part === undefined ? chance : Number(part) / Number(whole)), textOf: percent, onScale: (value) => `${value}\u00a0%` };
 const POINTS = { valueOf: ({ worth }) => Number(worth), textOf: ({ worth }) => points(Math.round(Number(worth))), onScale: points };
 // The greatest value of a scale is the least of these that is enough.
 const SCALES = {
@@ -54,19 +54,16 @@ function questionLines(line, last, goal) {
   return [last, ...range(1, last - 1)].map((turns) => `${hand} turns=${turns} ${stakes}`);
 }
 
-// What an answer tells of each number of draws. The upper ends are those of the last.
+// What an answer tells of each number of draws: of the last all, of those before it how often a goal is reached.
 function byDraws(answer) {
   if (answer.answer !== "chances") return [answer];
-  const partsAt = (turns, { by_turn: rows }) => {
-    const { ready, win, draws } = rows[turns - 1];
-    return { ready: { part: ready, whole: draws }, win: { part: win, whole: draws } };
-  };
-  const toldAt = (turns, one) => ({ ...one, ...partsAt(turns, one) });
-  const answerAt = (turns) => {
+  const reachedBy = (turns, { by_turn: rows }) => ({ ready: { chance: rows[turns - 1].ready }, win: { chance: rows[turns - 1].win } });
+  const toldBy = (turns) => {
     const { discards } = answer;
-    return { ...answer, turns, ...(discards ? { discards: discards.map((one) => toldAt(turns, one)) } : partsAt(turns, answer)) };
+    const parts = discards ? { discards: discards.map((one) => ({ ...one, ...reachedBy(turns, one) })) } : reachedBy(turns, answer);
+    return { ...answer, turns, ...parts };
   };
-  return range(1, answer.turns).map(answerAt);
+  return [...range(1, answer.turns - 1).map(toldBy), answer];
 }
 
 // Of thirteen tiles a column for each goal that isn't reached yet, or one for the points.

@@ -26,10 +26,12 @@ export function thousands(number) {
   return `${sign}${decimal(Math.abs(number) / 1000)}`;
 }
 
-// A part of a whole in percent, both as the library tells them: texts of digits. Only nothing is 0, and only all is 100.
-export function percent({ part, whole }) {
-  if (part === "0" || part === whole) return part === "0" ? "0" : "100";
-  const tenths = Number((BigInt(part) * 2000n / BigInt(whole) + 1n) / 2n);
+// A chance in percent, as the library tells it: a part of a whole, both texts of digits, of which only nothing is 0, and only all is 100; or
+// to four digits, of which the last is rounded.
+export function percent({ part, whole, chance }) {
+  if (part === "0" || chance === 0) return "0";
+  if (part === whole && (part !== undefined || chance === 1)) return "100";
+  const tenths = part === undefined ? Math.floor((Math.round(10000 * chance) + 5) / 10) : Number((BigInt(part) * 2000n / BigInt(whole) + 1n) / 2n);
   if (tenths === 0) return `<${decimal(0.1)}`;
   return tenths === 1000 ? `>${decimal(99.9)}` : decimal(tenths / 10);
 }

@@ -2,21 +2,16 @@
 use crate::facts::same;
 use crate::hands::{hand, size};
 use crate::room::room_for;
-use crate::worked::refused;
 use arrayvec::ArrayString;
-use riichi_chances::{Chances, Fraction, Odds, chances_of};
+use riichi_chances::{Fraction, Odds, chances_of};
 use riichi_chances_text::{
-    MOST_BY_TURN, MOST_ODDS, MOST_ODDS_MEMBERS, MOST_ODDS_WORDS, push_by_turn, push_decimal,
-    push_fraction, push_odds, push_odds_members, push_odds_words,
+    MOST_ODDS, MOST_ODDS_MEMBERS, MOST_ODDS_WORDS, push_decimal, push_fraction, push_odds,
+    push_odds_members, push_odds_words,
 };
 use riichi_rows::FreshRows;
-use std::alloc::Global;
 use std::test::Fail;
 
 const READY: &str = " ready 1/1 1.0000 most 1/1 1.0000 win 316/2501 0.1263 most 316/2501 0.1263";
-
-const BY_TURN: &str =
-    ",\"by_turn\":[{\"ready\":\"123\",\"win\":\"8\",\"draws\":\"123\"},{\"ready\":\"15006\",\"win\":\"1896\",\"draws\":\"15006\"}]";
 
 const MEMBERS: &str =
     "\"ready\":{\"part\":\"1\",\"whole\":\"1\",\"chance\":1.0000},\"ready_at_most\":{\"part\":\"1\",\"whole\":\"1\",\"chance\":1.0000},\"win\":{\"part\":\"316\",\"whole\":\"2501\",\"chance\":0.1263},\"win_at_most\":{\"part\":\"316\",\"whole\":\"2501\",\"chance\":0.1263}";
@@ -33,30 +28,21 @@ const BY_TWO: Odds = Odds {
     all: 15_006,
 };
 
-/// The chances of a ready hand by two draws.
-fn of_a_ready_hand(alloc: Global) -> Result<Chances, Fail> {
+#[test]
+fn odds_of_a_ready_hand(rt: HostRuntime) -> Result<(), Fail> {
     let asked = hand("123456789m1134p", &[], "")?;
     if size(&asked) != 13 {
         return Err(Fail::from("not thirteen tiles"));
     }
-    let mut room = room_for(alloc, 1)?;
-    chances_of(
+    let mut room = room_for(rt.alloc(), 1)?;
+    let chances = chances_of(
         room.places.as_mut_slice(),
         room.rows.as_mut_slice(),
         &mut FreshRows,
         &asked,
         2,
-    )
-    .map_err(refused)
-}
-
-#[test]
-fn odds_of_a_ready_hand(rt: HostRuntime) -> Result<(), Fail> {
-    let chances = of_a_ready_hand(rt.alloc())?;
-    same(&rt, chances.at(2), BY_TWO);
-    let mut text = ArrayString::<MOST_BY_TURN>::new();
-    push_by_turn(&mut text, &chances, 2);
-    same(&rt, text.as_str(), BY_TURN);
+    );
+    same(&rt, chances.map(|chances| chances.at(2)), Ok(BY_TWO));
     Ok(())
 }
 
