@@ -33,8 +33,9 @@ const WINS: [Row; 4] = [
 
 fn explained(rt: &impl Abort, rules: Rules, line: &str) -> JsonText {
     let mut text = JsonText::new();
-    match read_line(rules, line.as_bytes()) {
-        Ok(Some(Job::Win(win))) => push_explained_win(&mut text, &win, &mut FreshRows),
+    let job = read_line(rules, line.as_bytes()).ok();
+    match job.expect(rt, "no fault").expect(rt, "a job") {
+        Job::Win(win) => push_explained_win(&mut text, &win, &mut FreshRows),
         _ => holds(rt, false),
     }
     text

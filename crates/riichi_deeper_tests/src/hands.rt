@@ -4,37 +4,36 @@ ghost use Rattle.riichi_hand.specs.Hand.{size};
 
 use riichi_hand::ShapeRecord;
 use riichi_tiles::{Counts, Kind, Meld, Melds, read_counts};
-use std::test::Fail;
+use std::process::Abort;
 
-pub(crate) fn tiles(text: &str) -> Result<Counts, Fail> {
+pub(crate) fn tiles(rt: &impl Abort, text: &str) -> Counts {
     if text.is_empty() {
-        return Ok(Counts::new());
+        return Counts::new();
     }
-    let counts = read_counts(text.as_bytes())?;
-    Ok(counts)
+    read_counts(text.as_bytes()).ok().expect(rt, "tiles")
 }
 
-fn melds(texts: &[&str]) -> Result<Melds, Fail> {
+fn melds(rt: &impl Abort, texts: &[&str]) -> Melds {
     let mut melds = Melds::new();
     for text in texts {
-        let meld = Meld::read(text.as_bytes()).ok_or("no meld")?;
+        let meld = Meld::read(text.as_bytes()).expect(rt, "a meld");
         if melds.count() < 4 && meld.is_proper() {
             melds.push(meld);
         }
     }
-    Ok(melds)
+    melds
 }
 
 /// The one kind of a text.
-pub(crate) fn kind(text: &str) -> Result<Kind, Fail> {
-    let kind = tiles(text)?.lowest().ok_or("no kind")?;
-    Ok(kind)
+pub(crate) fn kind(rt: &impl Abort, text: &str) -> Kind {
+    tiles(rt, text).lowest().expect(rt, "a kind")
 }
 
 /// A hand with its melds and what is seen elsewhere.
-pub(crate) fn hand(text: &str, open: &[&str], seen: &str) -> Result<ShapeRecord, Fail> {
-    let asked = ShapeRecord::new(tiles(text)?, melds(open)?, tiles(seen)?)?;
-    Ok(asked)
+pub(crate) fn hand(rt: &impl Abort, text: &str, open: &[&str], seen: &str) -> ShapeRecord {
+    let (held, seen) = (tiles(rt, text), tiles(rt, seen));
+    let asked = ShapeRecord::new(held, melds(rt, open), seen);
+    asked.ok().expect(rt, "a hand")
 }
 
 /// How many tiles a hand has, each meld counted as three.

@@ -6,13 +6,17 @@ use riichi_split::{Reading, Readings};
 use riichi_tiles::{Block, Kind, Suit};
 use std::process::Abort;
 
-/// The win of a line.
+/// The win of a line, if it tells one.
+fn win_of(line: &str) -> Option<WinRecord> {
+    let job = read_line(Rules::One, line.as_bytes()).ok()??;
+    match job {
+        Job::Win(win) => Some(win),
+        Job::Waits(_) | Job::Shape(_) => None,
+    }
+}
+
 fn won(rt: &impl Abort, line: &str) -> WinRecord {
-    let win = match read_line(Rules::One, line.as_bytes()) {
-        Ok(Some(Job::Win(win))) => Some(win),
-        _ => None,
-    };
-    win.expect(rt, "a win")
+    win_of(line).expect(rt, "a win")
 }
 
 fn all(rt: &impl Abort, text: &[u8]) -> AllTiles {
