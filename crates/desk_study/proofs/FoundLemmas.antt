@@ -1,6 +1,7 @@
 -- What is told of chances that were found is what the question asks.
 use Rattle.std.proofs.Common.{◌≡◌, ℕ, zero, suc, ℤ, ◌+◌, ◌<◌, ◌≤◌, Bool, true, false, List, [], ◌∷◌, ◌++◌, get_or, length, map, take, refl, sym, subst, ap, ◌∙◌, append_assoc, arith}
 use Rattle.std.proofs.lemmas.List.{append-nil, get_or-map, length-map, take-map}
+use Rattle.std.proofs.lemmas.List.Elements.{All-cons, All-head, All-nil, All-tail}
 use Rattle.std.proofs.lemmas.Bool.{leb-true}
 use Rattle.std.specs.Prelude.{◌&&◌, ◌||◌, All, Option, codes, if◌then◌else◌, nat_le, nat_lt, slice_index_or}
 use Rattle.std.specs.List.{flat_map}
@@ -15,7 +16,7 @@ use Rattle.riichi_chances.specs.Draws.{unseen_of}
 use Rattle.riichi_chances.specs.Graph.{discard_kinds}
 use Rattle.riichi_chances.specs.Laws.{IsFourteen}
 use Rattle.riichi_chances.specs.Odds.{ArePartsOfAll, after_discard, best_odds, each_odds_at, odds_after, odds_at, odds_of}
-use Rattle.riichi_chances.specs.declared.chances.Chances.{Chances}
+use Rattle.riichi_chances.specs.declared.chances.Chances.{Chances as ByTurn}
 use Rattle.riichi_chances.specs.declared.discards.DiscardChances.{DiscardChances}
 use Rattle.riichi_chances.specs.declared.odds.DiscardOdds.{DiscardOdds}
 use Rattle.riichi_chances.specs.declared.odds.Odds.{Odds}
@@ -59,17 +60,24 @@ module _ (hand : Odds → List ℕ) (each_told : List DiscardOdds → List ℕ) 
   odds_told (Discards each) are = ap each_told (are.odds_are turns (omega arith)) ∙ sym (ap counted_told are.fourteen) ∙ sym (ap all_told are.counted)
 
 -- those of one number of turns after each discard are parts of some draws
-parts_at : (turns : ℕ) (some : List DiscardChances) → ArePartsOfEach turns some → All (λ (one : DiscardOdds). ArePartsOfAll one.odds) (each_odds_at some turns)
-parts_at turns [] are = search
-parts_at turns (one ∷ some) are = (are.0 turns (omega arith), parts_at turns some are.1)
+abbrev are_parts : DiscardOdds → Type 0
+are_parts one = ArePartsOfAll one.odds
+
+abbrev are_all_parts : ℕ → DiscardChances → Type 0
+are_all_parts turns one = AreAllParts turns one.chances
+
+parts_at : (turns : ℕ) (some : List DiscardChances) → ArePartsOfEach turns some → All are_parts (each_odds_at some turns)
+parts_at turns [] are = All-nil are_parts
+parts_at turns (one ∷ some) are =
+    All-cons are_parts (after_discard one.kind (odds_at one.chances turns)) (each_odds_at some turns) (All-head (are_all_parts turns) one some are turns (omega arith)) (parts_at turns some (All-tail (are_all_parts turns) one some are))
 
 pub parts_of_each : (found : FoundByTurn) (turns : ℕ) → AreParts turns found → All (λ (one : DiscardOdds). ArePartsOfAll one.odds) (each_of turns found)
-parts_of_each Uncounted turns are = parts_at turns [] search
-parts_of_each (Hand chances) turns are = parts_at turns [] search
+parts_of_each Uncounted turns are = All-nil are_parts
+parts_of_each (Hand chances) turns are = All-nil are_parts
 parts_of_each (Discards each) turns are = parts_at turns each.items are
 
 -- what is told by so many turns is told by fewer
-less_chances : (parts : ShapeParts) (turns count : ℕ) (chances : Chances) → count ≤ turns → AreChances parts turns chances → AreChances parts count chances
+less_chances : (parts : ShapeParts) (turns count : ℕ) (chances : ByTurn) → count ≤ turns → AreChances parts turns chances → AreChances parts count chances
 less_chances parts turns count chances low are = record {
   ready = λ k few. are.ready k (omega (arith, few, low));
   win = λ k few. are.win k (omega (arith, few, low));
@@ -78,17 +86,19 @@ less_chances parts turns count chances low are = record {
   win_few = λ k few. are.win_few k (omega (arith, few, low));
 }
 
-less_most : (parts : ShapeParts) (unseen turns count : ℕ) (chances : Chances) → count ≤ turns → AreAtMost parts unseen turns chances → AreAtMost parts unseen count chances
+less_most : (parts : ShapeParts) (unseen turns count : ℕ) (chances : ByTurn) → count ≤ turns → AreAtMost parts unseen turns chances → AreAtMost parts unseen count chances
 less_most parts unseen turns count chances low most = record { ready = λ k few. most.ready k (omega (arith, few, low)); win = λ k few. most.win k (omega (arith, few, low)) }
 
 -- of thirteen tiles they are parts of some draws
-pub hand_parts : (parts : ShapeParts) (turns : ℕ) (chances : Chances) → AreChances parts turns chances → AreAtMost parts (unseen_of parts) turns chances → turns ≤ unseen_of parts → AreAllParts turns chances
+pub hand_parts : (parts : ShapeParts) (turns : ℕ) (chances : ByTurn) → AreChances parts turns chances → AreAtMost parts (unseen_of parts) turns chances → turns ≤ unseen_of parts → AreAllParts turns chances
 hand_parts parts turns chances are most few = λ count low. parts_of_all parts parts count chances (less_chances parts turns count chances low are) (less_most parts (unseen_of parts) turns count chances low most) (omega (arith, low, few))
 
 -- and after each best discard of fourteen
 by_each : (turns : ℕ) (each : List DiscardChances) → ((count : ℕ) → count ≤ turns → All (λ (one : DiscardChances). ArePartsOfAll (odds_at one.chances count)) each) → ArePartsOfEach turns each
-by_each turns [] at = search
-by_each turns (one ∷ each) at = (λ count low. (at count low).0, by_each turns each (λ count low. (at count low).1))
+by_each turns [] at = All-nil (are_all_parts turns)
+by_each turns (one ∷ each) at =
+    All-cons (are_all_parts turns) one each (λ count low. All-head (λ (it : DiscardChances). ArePartsOfAll (odds_at it.chances count)) one each (at count low))
+    (by_each turns each (λ count low. All-tail (λ (it : DiscardChances). ArePartsOfAll (odds_at it.chances count)) one each (at count low)))
 
 pub discards_parts : (drawn : ShapeParts) (turns : ℕ) (each : List DiscardChances) → IsFourteen drawn → map (λ (one : DiscardChances). one.kind) each ≡ discard_kinds (discards_of drawn.tiles drawn.melds drawn.seen) → AreAfter drawn turns each → AreAfterAtMost drawn turns each → turns ≤ unseen_of drawn → ArePartsOfEach turns each
 discards_parts drawn turns each is kinds are most few =
