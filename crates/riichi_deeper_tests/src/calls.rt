@@ -1,5 +1,5 @@
 //! Calls, and a kong.
-use crate::facts::{holds, same};
+use crate::facts::same;
 use crate::hands::{hand, kind, size};
 use arrayvec::ArrayString;
 use riichi_deeper::{Call, Thrower, Thrown, calls, is_left, kong, laws};
@@ -8,6 +8,7 @@ use riichi_rows::FreshRows;
 use riichi_shape::{Accepts, ShapeAnswer, shape_text};
 use riichi_text::push_meld;
 use std::process::Abort;
+use std::test::Fail;
 
 /// A hand and a thrown tile, and for each claim the call with its discards, as the text of a ready hand's; no text where it is no
 /// gain.
@@ -380,9 +381,10 @@ const FOUND: [Row; 8] = [
 ];
 
 /// The meld of a call, and its discards as text.
-fn check_call(rt: &impl Abort, call: &Option<Call>, wanted: (&str, &str)) {
+fn check_call(rt: &impl Abort, call: &Option<Call>, wanted: (&str, &str)) -> Result<(), Fail> {
     let Some(call) = call else {
-        return same(rt, "", wanted.0);
+        same(rt, "", wanted.0);
+        return Ok(());
     };
     let mut meld = ArrayString::<64>::new();
     push_meld(&mut meld, &call.meld);
@@ -392,58 +394,64 @@ fn check_call(rt: &impl Abort, call: &Option<Call>, wanted: (&str, &str)) {
         accepts: Accepts::Fourteen(call.discards),
     };
     same(rt, shape_text(&answer).as_str(), wanted.1);
+    Ok(())
 }
 
-fn check(rt: &impl Abort, row: &Row) {
-    let asked = hand(rt, row.hand, row.open, row.seen);
+fn check(rt: &impl Abort, row: &Row) -> Result<(), Fail> {
+    let asked = hand(row.hand, row.open, row.seen)?;
     let thrown = Thrown {
-        tile: kind(rt, row.tile),
+        tile: kind(row.tile)?,
         by: row.by,
     };
-    holds(rt, size(&asked) == 13);
-    holds(rt, is_left(&asked, thrown.tile));
+    if size(&asked) != 13 || !is_left(&asked, thrown.tile) {
+        return Err(Fail::from("no such tile"));
+    }
     let [highest, middle, lowest, triplet] = calls(&mut FreshRows, &asked, &thrown);
-    check_call(rt, &highest, row.calls[0]);
-    check_call(rt, &middle, row.calls[1]);
-    check_call(rt, &lowest, row.calls[2]);
-    check_call(rt, &triplet, row.calls[3]);
+    check_call(rt, &highest, row.calls[0])?;
+    check_call(rt, &middle, row.calls[1])?;
+    check_call(rt, &lowest, row.calls[2])?;
+    check_call(rt, &triplet, row.calls[3])
 }
 
 #[test]
-fn answers_worked_hands(rt: HostRuntime) {
+fn answers_worked_hands(rt: HostRuntime) -> Result<(), Fail> {
     for row in &WORKED {
-        check(&rt, row);
+        check(&rt, row)?;
     }
+    Ok(())
 }
 
 #[test]
-fn answers_as_brute_force(rt: HostRuntime) {
+fn answers_as_brute_force(rt: HostRuntime) -> Result<(), Fail> {
     for row in &FOUND {
-        check(&rt, row);
+        check(&rt, row)?;
     }
+    Ok(())
 }
 
 /// What the hand is after a kong, and where it has no three.
-fn behind_a_kong(rt: &impl Abort, text: &str, tile: &str) -> Option<ShapeAnswer> {
-    let asked = hand(rt, text, &[], "");
-    let tile = kind(rt, tile);
-    holds(rt, size(&asked) == 13);
-    holds(rt, is_left(&asked, tile));
-    kong(&mut FreshRows, &asked, tile)
+fn kong_text(text: &str, tile: &str) -> Result<Option<ShapeAnswer>, Fail> {
+    let asked = hand(text, &[], "")?;
+    let tile = kind(tile)?;
+    if size(&asked) == 13 && is_left(&asked, tile) {
+        return Ok(kong(&mut FreshRows, &asked, tile));
+    }
+    Err(Fail::from("no such tile"))
 }
 
 /// What is accepted after a kong; none where the hand doesn't hold the other three.
 #[test]
-fn tells_a_kong(rt: HostRuntime) {
+fn tells_a_kong(rt: HostRuntime) -> Result<(), Fail> {
     laws::kongs();
     laws::nearer_by_one();
     laws::accepted_calls();
     laws::swap_calls();
-    let kept = behind_a_kong(&rt, "111z123456m2378p", "1z").expect(&rt, "three are held");
+    let kept = kong_text("111z123456m2378p", "1z")?.ok_or("three are held")?;
     same(
         &rt,
         shape_text(&kept).as_str(),
         "shanten 1 accepts 1p:4 2p:3 3p:3 4p:4 6p:4 7p:3 8p:3 9p:4 live 28",
     );
-    same(&rt, behind_a_kong(&rt, "11z1123456m2378p", "1z"), None);
+    same(&rt, kong_text("11z1123456m2378p", "1z")?, None);
+    Ok(())
 }

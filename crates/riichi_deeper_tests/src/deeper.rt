@@ -1,9 +1,10 @@
 //! Second and good.
-use crate::facts::{holds, same};
+use crate::facts::same;
 use crate::hands::{hand, kind, size};
 use riichi_deeper::{Outlook, deeper, deeper_without};
 use riichi_rows::FreshRows;
 use std::process::Abort;
+use std::test::Fail;
 
 /// What is asked of a hand, after a discard where it has fourteen tiles, and the answer; none of a ready hand.
 struct Row {
@@ -14,21 +15,25 @@ struct Row {
     answer: Option<(u16, u8)>,
 }
 
-fn answer_to(rt: &impl Abort, row: &Row) -> Option<Outlook> {
-    let asked = hand(rt, row.hand, row.open, row.seen);
+fn answer_to(row: &Row) -> Result<Option<Outlook>, Fail> {
+    let asked = hand(row.hand, row.open, row.seen)?;
     if row.discard.is_empty() {
-        holds(rt, size(&asked) == 13);
-        return deeper(&mut FreshRows, &asked);
+        if size(&asked) == 13 {
+            return Ok(deeper(&mut FreshRows, &asked));
+        }
+        return Err(Fail::from("not thirteen tiles"));
     }
-    let discard = kind(rt, row.discard);
-    holds(rt, size(&asked) == 14);
-    holds(rt, asked.tiles().get(discard) > 0);
-    deeper_without(&mut FreshRows, &asked, discard)
+    let discard = kind(row.discard)?;
+    if size(&asked) == 14 && asked.tiles().get(discard) > 0 {
+        return Ok(deeper_without(&mut FreshRows, &asked, discard));
+    }
+    Err(Fail::from("no such discard"))
 }
 
-fn check(rt: &impl Abort, row: &Row) {
-    let told = answer_to(rt, row).map(|outlook| (outlook.second, outlook.good));
+fn check(rt: &impl Abort, row: &Row) -> Result<(), Fail> {
+    let told = answer_to(row)?.map(|outlook| (outlook.second, outlook.good));
     same(rt, told, row.answer);
+    Ok(())
 }
 
 /// Worked by hand from the definition.
@@ -194,15 +199,17 @@ const FOUND: [Row; 10] = [
 ];
 
 #[test]
-fn answers_worked_hands(rt: HostRuntime) {
+fn answers_worked_hands(rt: HostRuntime) -> Result<(), Fail> {
     for row in &WORKED {
-        check(&rt, row);
+        check(&rt, row)?;
     }
+    Ok(())
 }
 
 #[test]
-fn answers_as_brute_force(rt: HostRuntime) {
+fn answers_as_brute_force(rt: HostRuntime) -> Result<(), Fail> {
     for row in &FOUND {
-        check(&rt, row);
+        check(&rt, row)?;
     }
+    Ok(())
 }

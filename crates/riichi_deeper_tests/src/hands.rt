@@ -4,36 +4,37 @@ ghost use Rattle.riichi_hand.specs.Hand.{size};
 
 use riichi_hand::ShapeRecord;
 use riichi_tiles::{Counts, Kind, Meld, Melds, read_counts};
-use std::process::Abort;
+use std::test::Fail;
 
-pub(crate) fn tiles(rt: &impl Abort, text: &str) -> Counts {
+pub(crate) fn tiles(text: &str) -> Result<Counts, Fail> {
     if text.is_empty() {
-        return Counts::new();
+        return Ok(Counts::new());
     }
-    read_counts(text.as_bytes()).ok().expect(rt, "tiles")
+    let counts = read_counts(text.as_bytes())?;
+    Ok(counts)
 }
 
-fn melds(rt: &impl Abort, texts: &[&str]) -> Melds {
+fn melds(texts: &[&str]) -> Result<Melds, Fail> {
     let mut melds = Melds::new();
     for text in texts {
-        let meld = Meld::read(text.as_bytes()).expect(rt, "a meld");
+        let meld = Meld::read(text.as_bytes()).ok_or("no meld")?;
         if melds.count() < 4 && meld.is_proper() {
             melds.push(meld);
         }
     }
-    melds
+    Ok(melds)
 }
 
 /// The one kind of a text.
-pub(crate) fn kind(rt: &impl Abort, text: &str) -> Kind {
-    tiles(rt, text).lowest().expect(rt, "a kind")
+pub(crate) fn kind(text: &str) -> Result<Kind, Fail> {
+    let kind = tiles(text)?.lowest().ok_or("no kind")?;
+    Ok(kind)
 }
 
 /// A hand with its melds and what is seen elsewhere.
-pub(crate) fn hand(rt: &impl Abort, text: &str, open: &[&str], seen: &str) -> ShapeRecord {
-    let (held, seen) = (tiles(rt, text), tiles(rt, seen));
-    let asked = ShapeRecord::new(held, melds(rt, open), seen);
-    asked.ok().expect(rt, "a hand")
+pub(crate) fn hand(text: &str, open: &[&str], seen: &str) -> Result<ShapeRecord, Fail> {
+    let asked = ShapeRecord::new(tiles(text)?, melds(open)?, tiles(seen)?)?;
+    Ok(asked)
 }
 
 /// How many tiles a hand has, each meld counted as three.
