@@ -128,7 +128,7 @@ typedef struct riichi_worth_row {
  *             {"answer":"refused","code":"places"}: it is asked once more with more.
  *   room      Where the object goes, as for `riichi_json`.
  *
- * Returns how many bytes the object takes; 0 where the line is a comment or blank. Each call has some 250 kB on the stack.
+ * Returns how many bytes the object takes; 0 where the line is a comment or blank. Each call has some 560 kB on the stack.
  */
 size_t riichi_study(const uint8_t *line, size_t line_len, riichi_hand_place *places, size_t places_len, riichi_hand_rows *rows,
     size_t rows_len, riichi_worth_row *worths, size_t worths_len, uint8_t *room, size_t room_len);
